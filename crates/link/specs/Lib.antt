@@ -1,0 +1,12 @@
+pub mod Stamps
+pub mod StampLaws
+pub mod Ids
+pub mod Words
+pub mod WordLaws
+pub mod Found
+pub mod FoundLaws
+pub mod Relations
+pub mod Siblings
+pub mod SiblingLaws
+pub mod Only
+pub mod OnlyLaws
