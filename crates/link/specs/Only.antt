@@ -1,4 +1,4 @@
--- What surgery leaves alone: said once, over the link. `Only ids m m′` is what every contract of this crate that writes links has.
+-- What surgery leaves alone: said once, over the link. OnlyLaws shows it of every model of this crate that writes links.
 -- Excluded: a write to the neighbouring slot; a link written over a stamp or a number.
 use mathlib.Core.Path.{_≡_}
 use mathlib.Core.List.{List, [], _∷_}

@@ -36,7 +36,7 @@ pub fn capacity(words: &[u32]) -> u32
     ensures { λ r. ⌜ r ≡ capacityOf (length (now (words .entry))) ⌝ }
 {
     let whole = words.len() / Slot::WORDS;
-    if whole < 65535 {
+    if whole < (Slot::MOST as usize) {
         return whole as u32;
     }
     Slot::MOST

@@ -6,6 +6,9 @@ use Rattle.link.specs.WordLaws.{capacity-whole, capacity-most}
 use Rattle.link.proofs.words.capacity.Statement.{statement}
 use Rattle.link.proofs.words.capacity.Tie as tie
 
+cast-if1 : tie.Need-cast-if1
+cast-if1 c = search needs
+
 cast-result : tie.Need-cast-result
 cast-result c = search needs
 
@@ -16,4 +19,4 @@ returns-2 : tie.Need-returns-2
 returns-2 c = sym (capacity-most _ (omega arith))
 
 pub capacity-spec : {M : Type 1} → statement M
-capacity-spec = tie.close (tie.spec cast-result returns returns-2)
+capacity-spec = tie.close (tie.spec cast-if1 cast-result returns returns-2)

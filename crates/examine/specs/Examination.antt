@@ -1,0 +1,35 @@
+-- The model of the examination. The passes over links run on the scratch; what they answer does not depend on what it held.
+use mathlib.Core.Bool.{Bool, true, false, cond, _&&_}
+use mathlib.Core.List.{List}
+use Prim.Native.Nat.{ℕ, zero, suc, _+_}
+use lib.Dec.{eqb, leb}
+use Rattle.link.specs.declared.header.Header.{Header}
+use Rattle.follow.specs.Marks.{scan}
+use Rattle.examine.specs.Slots.{bad, look, lookRun}
+use Rattle.examine.specs.Marks.{climbsRun}
+use Rattle.examine.specs.Chain.{chainRun}
+use Rattle.examine.specs.declared.chain.Verdict.{Verdict}
+use Rattle.examine.specs.declared.chain.Verdict.the-variants.{Unsound}
+
+-- The passes over links, on the scratch.
+unfoldable pub linksRun : List ℕ → ℕ → List ℕ → List ℕ × Bool
+linksRun m used scratch =
+    let r = lookRun used m used 1 scratch in
+    cond (r .1) (climbsRun used used 1 (r .0)) r
+
+-- No slot of n, from s on, is bad.
+unfoldable pub noneBad : ℕ → List ℕ → ℕ → ℕ → Bool
+noneBad zero m used s = true
+noneBad (suc n) m used s = cond (eqb (look m used s) bad) false (noneBad n m used (s + 1))
+
+-- What leads to a slot in use, kept within the slots in use.
+unfoldable pub leading : List ℕ → ℕ → ℕ → ℕ
+leading m used s = cond (leb (look m used s) used) (look m used s) 0
+
+-- Every slot passes, and along what leads to it every slot comes to none.
+unfoldable pub linksOk : List ℕ → ℕ → Bool
+linksOk m used = noneBad used m used 1 && scan (leading m used) used used 1 (λ _. 0)
+
+unfoldable pub examined : List ℕ → Header → Verdict
+examined m h =
+    cond (linksOk m (h .used)) (chainRun (h .used + 1) m (h .used) (h .last) false 0 (h .first)) Unsound

@@ -1,0 +1,13 @@
+pub mod Slots
+pub mod Marks
+pub mod Chain
+pub mod Verdicts
+pub mod Scratch
+pub mod Examination
+pub mod TestLaws
+pub mod ScratchLaws
+pub mod SlotLaws
+pub mod MarkLaws
+pub mod ChainLaws
+pub mod LeadingLaws
+pub mod PassLaws

@@ -1,0 +1,1 @@
+// Theory alone: following a function from place to place, with marks. See specs/.
