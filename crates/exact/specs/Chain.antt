@@ -142,7 +142,7 @@ module _ (m : List ℕ) where
           yes-both true = refl
           yes-both false = refl
 
-      -- ready, of whatever sound chain there is
+      -- Of whatever chain the header has.
       pub chain-ready : (c : FreeChain (λ s. word m s NUMBER) (FreeSlot m) used first last)
           → (readyB (chainRun (used + 1) m used last false 0 first) ≡ true) ↔ All (Unspent m) (c .slots)
       chain-ready c =

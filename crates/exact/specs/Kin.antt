@@ -61,10 +61,11 @@ module _ (m : List ℕ) (used : ℕ) where
     λ w. has-true m used y (wordOf j) a (wordOf k) b .1 (w .0, sym (view-word j y (w .0)) ∙ w .1, sym (view-word k y (w .0)) ∙ w .2),
   )
 
-  -- each test, of the node x with any links
+  -- Each test, of the node x with any links.
   module _ (x : ℕ) where
     children-true : (first last : ℕ) → (childrenOk m used x first last ≡ true)
-        ↔ ((first ≡ 0 → last ≡ 0) × (first ≢ 0 → (Found m used first × (view m par first ≡ x) × (view m prv first ≡ 0)) × (Found m used last × (view m par last ≡ x) × (view m nxt last ≡ 0))))
+        ↔ ((first ≡ 0 → last ≡ 0)
+        × (first ≢ 0 → (Found m used first × (view m par first ≡ x) × (view m prv first ≡ 0)) × (Found m used last × (view m par last ≡ x) × (view m nxt last ≡ 0))))
     unfolding childrenOk
     children-true first last = (
       λ e.
@@ -87,10 +88,10 @@ module _ (m : List ℕ) (used : ℕ) where
       where
         to : previousOk m used x parent previous ≡ true
             → (parent ≢ 0 → Found m used parent) × (previous ≢ 0 → Found m used previous × (view m nxt previous ≡ x)) × (previous ≡ 0 → parent ≢ 0 → view m fst parent ≡ x)
-        to e = (λ k. parent-found k (ℕ-discrete previous 0), λ n. let w = behind n .0 in (w .0, w .1), λ z n. leading z n .1)
+        to e = (λ k. parent-found k (ℕ-discrete previous 0), λ n. let w = behind n .0 in (w .0, w .1), λ z n. heads z n .1)
           where
-            leading : previous ≡ 0 → parent ≢ 0 → Found m used parent × (view m fst parent ≡ x) × (view m fst parent ≡ x)
-            leading z n = has-links parent fst x fst x .0 (none-true parent _ _ .0 (none-true previous _ _ .0 e .0 z) .1 n)
+            heads : previous ≡ 0 → parent ≢ 0 → Found m used parent × (view m fst parent ≡ x) × (view m fst parent ≡ x)
+            heads z n = has-links parent fst x fst x .0 (none-true parent _ _ .0 (none-true previous _ _ .0 e .0 z) .1 n)
 
             behind : previous ≢ 0 → (Found m used previous × (view m nxt previous ≡ x) × (view m nxt previous ≡ x)) × (parent ≢ 0 → Found m used parent)
             behind n =
@@ -98,7 +99,7 @@ module _ (m : List ℕ) (used : ℕ) where
                 (has-links previous nxt x nxt x .0 a, λ k. found-is m used parent (none-true parent _ _ .0 b .1 k))
 
             parent-found : parent ≢ 0 → Dec (previous ≡ 0) → Found m used parent
-            parent-found k (yes z) = leading z k .0
+            parent-found k (yes z) = heads z k .0
             parent-found k (no n) = behind n .1 k
 
         from : (parent ≢ 0 → Found m used parent) × (previous ≢ 0 → Found m used previous × (view m nxt previous ≡ x)) × (previous ≡ 0 → parent ≢ 0 → view m fst parent ≡ x)

@@ -1,4 +1,4 @@
--- The examination says yes exactly for sound memory.
+-- The examination says yes exactly for sound memory: the tests of a node, then each pass, then all three.
 pub mod Kin
 pub mod FirstPass
 pub mod Climbs

@@ -1,4 +1,5 @@
--- The third pass, one slot of the free chain at a time. From its definition alone.
+-- The third pass, one slot of the free chain at a time: what it answers out of steps, and with one step more.
+-- From its definition alone.
 use mathlib.Core.Path.{_≡_}
 use mathlib.Core.Bool.{Bool, cond}
 use mathlib.Core.List.{List}

@@ -2,10 +2,12 @@
 use mathlib.Core.Bool.{Bool, true, false, cond, _&&_}
 use mathlib.Core.List.{List}
 use Prim.Native.Nat.{ℕ, zero, suc, _+_}
-use lib.Dec.{eqb, leb}
+use lib.Dec.{ltb, leb}
+use Rattle.link.specs.Ids.{idOf, stampOf}
+use Rattle.link.specs.Words.{STAMP, word}
 use Rattle.link.specs.declared.header.Header.{Header}
 use Rattle.follow.specs.Marks.{scan}
-use Rattle.examine.specs.Slots.{bad, look, lookRun}
+use Rattle.examine.specs.Slots.{kinOk, look, lookRun}
 use Rattle.examine.specs.Marks.{climbsRun}
 use Rattle.examine.specs.Chain.{chainRun}
 use Rattle.examine.specs.declared.chain.Verdict.{Verdict}
@@ -17,10 +19,16 @@ linksRun m used scratch =
     let r = lookRun used m used 1 scratch in
     cond (r .1) (climbsRun used used 1 (r .0)) r
 
--- No slot of n, from s on, is bad.
-unfoldable pub noneBad : ℕ → List ℕ → ℕ → ℕ → Bool
-noneBad zero m used s = true
-noneBad (suc n) m used s = cond (eqb (look m used s) bad) false (noneBad n m used (s + 1))
+-- Of a removed slot nothing is asked; a live one has kind 0 and its node passes all tests.
+unfoldable pub passes : List ℕ → ℕ → ℕ → Bool
+passes m used s =
+    cond (ltb 32767 (stampOf (word m s STAMP))) true
+    (cond (ltb 65535 (word m s STAMP)) false (kinOk m used s (idOf s (word m s STAMP))))
+
+-- Each slot of n, from s on.
+unfoldable pub allPass : ℕ → List ℕ → ℕ → ℕ → Bool
+allPass zero m used s = true
+allPass (suc n) m used s = cond (passes m used s) (allPass n m used (s + 1)) false
 
 -- What leads to a slot in use, kept within the slots in use.
 unfoldable pub leading : List ℕ → ℕ → ℕ → ℕ
@@ -28,7 +36,7 @@ leading m used s = cond (leb (look m used s) used) (look m used s) 0
 
 -- Every slot passes, and along what leads to it every slot comes to none.
 unfoldable pub linksOk : List ℕ → ℕ → Bool
-linksOk m used = noneBad used m used 1 && scan (leading m used) used used 1 (λ _. 0)
+linksOk m used = allPass used m used 1 && scan (leading m used) used used 1 (λ _. 0)
 
 unfoldable pub examined : List ℕ → Header → Verdict
 examined m h =

@@ -14,13 +14,13 @@ use lib.Seq.{getD-set-same, getD-set-other}
 use borrow.Author.Tests.{eq-eqb, ne-eqb, lt-ltb, le-ltb}
 use Rattle.follow.specs.Point.{at, at-same, at-other}
 use Rattle.follow.specs.Marks.{climb, scan}
-use Rattle.examine.specs.Slots.{bad, look, lookRun}
-use Rattle.examine.specs.SlotLaws.{look-within, look-most}
+use Rattle.examine.specs.Slots.{look, lookRun}
+use Rattle.examine.specs.SlotLaws.{look-within}
 use Rattle.examine.specs.Marks.{climbRun, climbsRun}
 use Rattle.examine.specs.MarkLaws.{climb-within, climbs-within}
 use Rattle.examine.specs.ScratchLaws.{Within, within-both}
-use Rattle.examine.specs.Examination.{linksRun, noneBad, leading, linksOk}
-use Rattle.examine.specs.LeadingLaws.{none-bad, leading-most, leading-look}
+use Rattle.examine.specs.Examination.{linksRun, passes, allPass, leading, linksOk}
+use Rattle.examine.specs.LeadingLaws.{all-pass, look-most, look-bad, leading-most, leading-look}
 
 -- ---- the second pass, along any function that stays within used
 
@@ -98,38 +98,42 @@ module _ (f : ℕ → ℕ) (used : ℕ) (inside : (y : ℕ) → f y ≤ used) (s
 
 -- ---- the first pass
 
-module _ (m : List ℕ) (used : ℕ) where
-  look-says : (n s : ℕ) (scratch : List ℕ) → lookRun n m used s scratch .1 ≡ noneBad n m used s
-  unfolding lookRun noneBad
+module _ (m : List ℕ) (used : ℕ) (small : used ≤ 65535) where
+  look-says : (n s : ℕ) (scratch : List ℕ) → lookRun n m used s scratch .1 ≡ allPass n m used s
+  unfolding lookRun allPass
   look-says zero s scratch = refl
-  look-says (suc n) s scratch = by (eqb (look m used s) bad) (look-says n (s + 1) (set scratch s (look m used s)))
+  look-says (suc n) s scratch = rw (look-bad m used small s) (by (passes m used s) (look-says n (s + 1) (set scratch s (look m used s))))
     where
-      by : (t : Bool) → lookRun n m used (s + 1) (set scratch s (look m used s)) .1 ≡ noneBad n m used (s + 1)
-          → cond t (scratch, false) (lookRun n m used (s + 1) (set scratch s (look m used s))) .1 ≡ cond t false (noneBad n m used (s + 1))
-      by true ih = refl
-      by false ih = ih
+      by : (t : Bool) → lookRun n m used (s + 1) (set scratch s (look m used s)) .1 ≡ allPass n m used (s + 1)
+          → cond (not t) (scratch, false) (lookRun n m used (s + 1) (set scratch s (look m used s))) .1 ≡ cond t (allPass n m used (s + 1)) false
+      by true ih = ih
+      by false ih = refl
 
   -- Each place looked at holds what leads to its slot; those before are as they were.
-  look-holds : (n s : ℕ) (scratch : List ℕ) → 1 ≤ s → s + n ≤ used + 1 → 2 * used ≤ length scratch → noneBad n m used s ≡ true → (y : ℕ)
+  look-holds : (n s : ℕ) (scratch : List ℕ) → 1 ≤ s → s + n ≤ used + 1 → 2 * used ≤ length scratch → allPass n m used s ≡ true → (y : ℕ)
       → (s ≤ y → y < s + n → getD (lookRun n m used s scratch .0) y 0 ≡ look m used y) × (y < s → getD (lookRun n m used s scratch .0) y 0 ≡ getD scratch y 0)
-  unfolding lookRun noneBad
+  unfolding lookRun allPass
   look-holds zero s scratch a b room e y = (λ c d. absurd (lt-irrefl y (omega arith)), λ _. refl)
   look-holds (suc n) s scratch a b room e y =
-      by (eqb (look m used s) bad) e (λ q. look-holds n (s + 1) (set scratch s (look m used s)) (omega arith) (omega arith) (rw (length-set scratch s (look m used s)) room) q y) (ℕ-discrete y s)
+      rw (look-bad m used small s)
+      (by (passes m used s) e
+      (λ q. look-holds n (s + 1) (set scratch s (look m used s)) (omega arith) (omega arith) (rw (length-set scratch s (look m used s)) room) q y)
+      (ℕ-discrete y s))
     where
       R : List ℕ × Bool
       R = lookRun n m used (s + 1) (set scratch s (look m used s))
 
-      by : (t : Bool) → cond t false (noneBad n m used (s + 1)) ≡ true
-          → (noneBad n m used (s + 1) ≡ true → (s + 1 ≤ y → y < s + 1 + n → getD (R .0) y 0 ≡ look m used y) × (y < s + 1 → getD (R .0) y 0 ≡ getD (set scratch s (look m used s)) y 0))
+      by : (t : Bool) → cond t (allPass n m used (s + 1)) false ≡ true
+          → (allPass n m used (s + 1) ≡ true
+          → (s + 1 ≤ y → y < s + 1 + n → getD (R .0) y 0 ≡ look m used y) × (y < s + 1 → getD (R .0) y 0 ≡ getD (set scratch s (look m used s)) y 0))
           → Dec (y ≡ s)
-          → (s ≤ y → y < s + suc n → getD (cond t (scratch, false) R .0) y 0 ≡ look m used y) × (y < s → getD (cond t (scratch, false) R .0) y 0 ≡ getD scratch y 0)
-      by true q ih d = absurd (false≢true q)
-      by false q ih (yes r) = (
+          → (s ≤ y → y < s + suc n → getD (cond (not t) (scratch, false) R .0) y 0 ≡ look m used y) × (y < s → getD (cond (not t) (scratch, false) R .0) y 0 ≡ getD scratch y 0)
+      by false q ih d = absurd (false≢true q)
+      by true q ih (yes r) = (
         λ _ _. ih q .1 (omega arith) ∙ rw r (getD-set-same scratch s (look m used s) 0 (omega arith)),
         λ c. absurd (lt-irrefl y (omega arith)),
       )
-      by false q ih (no r) = (
+      by true q ih (no r) = (
         λ c d. ih q .0 (omega arith) (omega arith),
         λ c. ih q .1 (omega arith) ∙ getD-set-other scratch s y (look m used s) 0 r,
       )
@@ -138,23 +142,25 @@ module _ (m : List ℕ) (used : ℕ) where
 
 pub links-is : (m : List ℕ) (used : ℕ) (scratch : List ℕ) → used ≤ 65535 → 2 * used ≤ length scratch → linksRun m used scratch .1 ≡ linksOk m used
 unfolding linksRun linksOk
-links-is m used scratch small room = by (noneBad used m used 1) refl
+links-is m used scratch small room = by (allPass used m used 1) refl
   where
     R : List ℕ × Bool
     R = lookRun used m used 1 scratch
 
-    shows : noneBad used m used 1 ≡ true → Shows (leading m used) used (leading-most m used) small (λ _. 0) (R .0)
+    shows : allPass used m used 1 ≡ true → Shows (leading m used) used (leading-most m used) small (λ _. 0) (R .0)
     shows e = record {
-      unmarked = λ y a b _. look-holds m used used 1 scratch (omega arith) (omega arith) room e y .0 a (omega arith) ∙ sym (leading-look m used y (look-most m used y (none-bad m used used 1 .0 e y a (omega arith))));
+      unmarked = λ y a b _.
+          look-holds m used small used 1 scratch (omega arith) (omega arith) room e y .0 a (omega arith)
+          ∙ sym (leading-look m used y (look-most m used y (all-pass m used used 1 .0 e y a (omega arith))));
       marked = λ y a b n. absurd (n refl);
     }
 
-    by : (t : Bool) → noneBad used m used 1 ≡ t
-        → cond (R .1) (climbsRun used used 1 (R .0)) R .1 ≡ (noneBad used m used 1 && scan (leading m used) used used 1 (λ _. 0))
+    by : (t : Bool) → allPass used m used 1 ≡ t
+        → cond (R .1) (climbsRun used used 1 (R .0)) R .1 ≡ (allPass used m used 1 && scan (leading m used) used used 1 (λ _. 0))
     by true e =
         let w = look-within used m used 1 scratch (omega arith) (omega arith) in
-        simp (look-says m used used 1 scratch, e) (climbs-alike (leading m used) used (leading-most m used) small used (λ _. 0) (R .0) 1 (omega arith) (omega arith) (omega arith) (shows e))
-    by false e = simp (look-says m used used 1 scratch, e)
+        simp (look-says m used small used 1 scratch, e) (climbs-alike (leading m used) used (leading-most m used) small used (λ _. 0) (R .0) 1 (omega arith) (omega arith) (omega arith) (shows e))
+    by false e = simp (look-says m used small used 1 scratch, e)
 
 pub links-within : (m : List ℕ) (used : ℕ) (scratch : List ℕ) → Within used scratch (linksRun m used scratch .0)
 unfolding linksRun

@@ -1,18 +1,17 @@
 -- The first pass, one slot at a time; it writes to the places of the slots it looks at, and finds no leading slot past used.
 -- From its definition alone.
 use mathlib.Core.Path.{_≡_, refl}
-use mathlib.Core.Logic.{_≢_}
 use mathlib.Core.Bool.{Bool, true, false, cond}
 use mathlib.Core.List.{List}
 use Prim.Native.Nat.{_-_, ℕ, zero, suc, _+_, _<_, _≤_}
 use native.Mathlib.Omega.{arith}
 use native.Mathlib.Numerals.{sub-one}
-use lib.Dec.{eqb, ltb}
+use lib.Dec.{eqb}
 use lib.ListN.{set}
 use borrow.Author.Tests.{eqb-true}
-use Rattle.link.specs.Ids.{slotOf, idOf, stampOf}
-use Rattle.link.specs.Words.{STAMP, PARENT, PREVIOUS, NEXT, FIRST, word}
-use Rattle.examine.specs.Slots.{bad, hasB, leadOk, noneOrFoundB, previousOk, priorSlot, kinOk, kinOf, look, lookRun}
+use Rattle.link.specs.Ids.{slotOf}
+use Rattle.link.specs.Words.{PARENT, PREVIOUS, NEXT, FIRST, word}
+use Rattle.examine.specs.Slots.{bad, hasB, leadOk, noneOrFoundB, previousOk, priorSlot, kinOk, look, lookRun}
 use Rattle.examine.specs.TestLaws.{both-true, has-true}
 use Rattle.examine.specs.ScratchLaws.{Within, within-none, within-set}
 
@@ -59,16 +58,3 @@ prior-most m used x parent previous e = by (eqb previous 0) refl e
 pub kin-most : (m : List ℕ) (used s x : ℕ) → kinOk m used s x ≡ true → priorSlot (word m s PARENT) (word m s PREVIOUS) ≤ used
 unfolding kinOk
 kin-most m used s x e = prior-most m used x (word m s PARENT) (word m s PREVIOUS) (both-true _ _ .0 e .0)
-
-pub look-most : (m : List ℕ) (used s : ℕ) → look m used s ≢ bad → look m used s ≤ used
-unfolding look kinOf
-look-most m used s n = by (ltb 32767 (stampOf (word m s STAMP))) (ltb 65535 (word m s STAMP)) (kinOk m used s (idOf s (word m s STAMP))) refl n
-  where
-    prior : ℕ
-    prior = priorSlot (word m s PARENT) (word m s PREVIOUS)
-
-    by : (a b c : Bool) → kinOk m used s (idOf s (word m s STAMP)) ≡ c → cond a 0 (cond b bad (cond c prior bad)) ≢ bad → cond a 0 (cond b bad (cond c prior bad)) ≤ used
-    by true b c e n = omega arith
-    by false true c e n = absurd (n refl)
-    by false false false e n = absurd (n refl)
-    by false false true e n = kin-most m used s (idOf s (word m s STAMP)) e

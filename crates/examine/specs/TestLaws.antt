@@ -1,4 +1,5 @@
--- What the yes of a test says: of two tests one after the other, of a test by whether a link is none, of a test of a found node's words.
+-- What the yes of a test says: of two tests one after the other, of a test by whether a link is none, and of the test that a node is
+-- found and has two given words. From the tests of numbers, and the laws of found.
 use mathlib.Core.Path.{_≡_, refl}
 use mathlib.Core.Logic.{_≢_, _↔_}
 use mathlib.Core.Bool.{Bool, true, false, cond, false≢true}

@@ -1,4 +1,5 @@
--- The two questions that a verdict answers: sound, spent slots on the free chain or none; and ready.
+-- The two questions that a verdict answers: whether memory is sound, with spent slots on the free chain or without; and whether it is
+-- ready. Ready memory is sound.
 use mathlib.Core.Path.{_≡_, refl}
 use mathlib.Core.Bool.{Bool, true, false}
 use Rattle.examine.specs.declared.chain.Verdict.{Verdict}

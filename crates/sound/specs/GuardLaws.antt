@@ -83,9 +83,6 @@ module _ (m : List ℕ) (h : Header) where
   unfolding readyNo
   guard-ready n = (to, from)
     where
-      within : Fits (length m) (h .used) n → h .used ≤ most
-      within f = capacity-fits (length m) (h .used) (f .frame) .0
-
       sure : (b : Bool) → cond b DONE INVALID ≡ DONE → b ≡ true
       sure true e = refl
       sure false e = absurd (omega arith)
@@ -96,13 +93,13 @@ module _ (m : List ℕ) (h : Header) where
           by : Dec (fitNo (length m) (h .used) n ≡ DONE) → (h .used ≤ capacityOf (length m)) × (2 * h .used ≤ n) × Ready m h
           by (yes d) =
               let f = fit-done (length m) (h .used) n .0 d in
-              (f .frame, f .room, examined-ready m h (within f) .0 (sure (readyB (examined m h)) (sym (guard-fits n f) ∙ e)))
+              (f .frame, f .room, examined-ready m h .0 (sure (readyB (examined m h)) (sym (guard-fits n f) ∙ e)))
           by (no k) = absurd (k (sym (guard-unfit n k) ∙ e))
 
       from : (h .used ≤ capacityOf (length m)) × (2 * h .used ≤ n) × Ready m h → guardNo m h n ≡ DONE
       from w =
           let f : Fits (length m) (h .used) n = record { frame = w .0; room = w .1 } in
-          guard-fits n f ∙ simp (examined-ready m h (within f) .1 (w .2))
+          guard-fits n f ∙ simp (examined-ready m h .1 (w .2))
 
   -- The validator answers 1 exactly on sound memory that fits.
   pub validated-sound : (s : List ℕ)
@@ -112,9 +109,6 @@ module _ (m : List ℕ) (h : Header) where
     where
       n : ℕ
       n = fitNo (length m) (h .used) (length s)
-
-      within : Fits (length m) (h .used) (length s) → h .used ≤ most
-      within f = capacity-fits (length m) (h .used) (f .frame) .0
 
       sure : (b : Bool) → _≡_ {A = ℕ} (cond b 1 0) 1 → b ≡ true
       sure true e = refl
@@ -127,13 +121,13 @@ module _ (m : List ℕ) (h : Header) where
               → (h .used ≤ capacityOf (length m)) × (2 * h .used ≤ length s) × Sound m h
           by true q r =
               let f = fit-done (length m) (h .used) (length s) .0 (eqb-true n DONE q) in
-              (f .frame, f .room, examined-sound m h (within f) .0 (sure (soundB (examined m h)) r))
+              (f .frame, f .room, examined-sound m h .0 (sure (soundB (examined m h)) r))
           by false q r = absurd (omega arith)
 
       from : (h .used ≤ capacityOf (length m)) × (2 * h .used ≤ length s) × Sound m h → _≡_ {A = ℕ} (cond (eqb n DONE) (cond (soundB (examined m h)) 1 0) 0) 1
       from w =
           let f : Fits (length m) (h .used) (length s) = record { frame = w .0; room = w .1 } in
-          simp (eq-eqb n DONE (fit-done (length m) (h .used) (length s) .1 f), examined-sound m h (within f) .1 (w .2))
+          simp (eq-eqb n DONE (fit-done (length m) (h .used) (length s) .1 f), examined-sound m h .1 (w .2))
 
   -- What the validator's calls hand back, put together; and the claim on its result, read off that.
   pub validated-fits : (s : List ℕ) {s′ : List ℕ} {no result : ℕ} → no ≡ fitNo (length m) (h .used) (length s) → no ≡ DONE
