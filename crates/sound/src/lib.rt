@@ -14,7 +14,7 @@ ghost use Rattle.rules.specs.Sound.{Sound, Ready};
 ghost use Rattle.sound.specs.Guard.{fitNo, soundResult, readyNo, scratchAfter, validated, guardNo};
 
 // FRAME, SCRATCH, or DONE where soundness can be examined.
-fn fit(words: &[u32], used: u32, scratch: &[u32]) -> u32
+pub fn fit(words: &[u32], used: u32, scratch: &[u32]) -> u32
     ensures { λ r. ⌜ r ≡ fitNo (length (now (words .entry))) used (length (now (scratch .entry))) ⌝ }
 {
     if capacity(words) < used {
@@ -27,7 +27,7 @@ fn fit(words: &[u32], used: u32, scratch: &[u32]) -> u32
 }
 
 // 1 for sound, else 0.
-fn sound_result(verdict: Verdict) -> u32
+pub fn sound_result(verdict: Verdict) -> u32
     ensures { λ r. ⌜ r ≡ soundResult verdict ⌝ }
 {
     match verdict {
@@ -38,7 +38,7 @@ fn sound_result(verdict: Verdict) -> u32
 }
 
 // DONE for ready, else INVALID.
-fn ready_number(verdict: Verdict) -> u32
+pub fn ready_number(verdict: Verdict) -> u32
     ensures { λ r. ⌜ r ≡ readyNo verdict ⌝ }
 {
     match verdict {
