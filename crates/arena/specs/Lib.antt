@@ -8,4 +8,4 @@ pub mod ReadLaws
 pub mod FreeListLaws
 pub mod CreateLaws
 pub mod CensusLaws
-pub mod GuardedLaws
+pub mod CensusCallLaws

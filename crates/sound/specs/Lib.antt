@@ -1,2 +1,3 @@
 pub mod Guard
 pub mod GuardLaws
+pub mod GuardedLaws

@@ -1,6 +1,6 @@
 -- The contract of `arena::arena::census`.
 use borrow.Author.Needs.{needs}
-use Rattle.arena.specs.GuardedLaws.{census-passed, census-stopped}
+use Rattle.arena.specs.CensusCallLaws.{census-passed, census-stopped}
 use Rattle.arena.proofs.arena.census.Statement.{statement}
 use Rattle.arena.proofs.arena.census.Tie as tie
 

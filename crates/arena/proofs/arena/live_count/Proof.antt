@@ -5,7 +5,7 @@ use borrow.Author.Needs.{needs}
 use Rattle.rules.specs.Answers.{DONE, reply}
 use Rattle.sound.specs.GuardLaws.{capacity-fits}
 use Rattle.arena.specs.Census.{liveCall}
-use Rattle.arena.specs.GuardedLaws.{read-passed, read-stopped}
+use Rattle.sound.specs.GuardedLaws.{read-passed, read-stopped}
 use Rattle.arena.proofs.arena.live_count.Statement.{statement}
 use Rattle.arena.proofs.arena.live_count.Tie as tie
 

@@ -1,7 +1,7 @@
 -- The contract of `arena::arena::new_node`.
 use borrow.Author.Needs.{needs}
 use Rattle.arena.specs.Create.{newCall}
-use Rattle.arena.specs.GuardedLaws.{guarded-done, guarded-refused}
+use Rattle.sound.specs.GuardedLaws.{guarded-done, guarded-refused}
 use Rattle.arena.proofs.arena.new_node.Statement.{statement}
 use Rattle.arena.proofs.arena.new_node.Tie as tie
 

@@ -8,15 +8,13 @@ use Rattle.link.specs.declared.header.Header.{Header}
 use Rattle.rules.specs.Answers.{DONE, reply, answer}
 use Rattle.rules.specs.declared.answer.Reply.{Reply}
 use Rattle.rules.specs.declared.answer.Answer.{Answer}
 use Rattle.sound.specs.Guard.{scratchAfter, guardNo, guarded, guardedRead}
-use Rattle.arena.specs.declared.census.Census.{Census}
-use Rattle.arena.specs.Census.{censusOf, counted, noCensus, censusCall}
 
 module _ (m : List ℕ) (h : Header) (s : List ℕ) {s₁ : List ℕ} {no : ℕ} (scratch : s₁ ≡ scratchAfter m h s) (number : no ≡ guardNo m h (length s)) where
-  passed : no ≡ DONE → guardNo m h (length s) ≡ DONE
+  pub passed : no ≡ DONE → guardNo m h (length s) ≡ DONE
   passed d = sym number ∙ d
 
-  stopped : (no ≡ DONE → ⊥) → guardNo m h (length s) ≡ DONE → ⊥
+  pub stopped : (no ≡ DONE → ⊥) → guardNo m h (length s) ≡ DONE → ⊥
   stopped n e = n (number ∙ e)
 
   pub guarded-done : {work : List ℕ × Answer} {m₁ : List ℕ} {r : Answer} → no ≡ DONE → (m₁, r) ≡ work → (m₁, s₁, r) ≡ guarded m h s work
@@ -40,16 +38,3 @@ module _ (m : List ℕ) (h : Header) (s : List ℕ) {s₁ : List ℕ} {no : ℕ}
   read-stopped work n =
       simp (ne-eqb (guardNo m h (length s)) DONE (stopped n))
       (ap (λ (t : List ℕ). (t, reply no 0)) scratch ∙ ap (λ (k : ℕ). (scratchAfter m h s, reply k 0)) number)
-
-  -- The census likewise.
-  pub census-passed : {c : Census} → no ≡ DONE → c ≡ censusOf m h → (s₁, counted DONE c) ≡ censusCall m h s
-  unfolding censusCall
-  census-passed {c} d e =
-      simp (eq-eqb (guardNo m h (length s)) DONE (passed d))
-      (ap (λ (t : List ℕ). (t, counted DONE c)) scratch ∙ ap (λ (x : Census). (scratchAfter m h s, counted DONE x)) e)
-
-  pub census-stopped : (no ≡ DONE → ⊥) → (s₁, counted no noCensus) ≡ censusCall m h s
-  unfolding censusCall
-  census-stopped n =
-      simp (ne-eqb (guardNo m h (length s)) DONE (stopped n))
-      (ap (λ (t : List ℕ). (t, counted no noCensus)) scratch ∙ ap (λ (k : ℕ). (scratchAfter m h s, counted k noCensus)) number)
