@@ -129,12 +129,12 @@ module _ (v : View) (live : ℕ → Type 0) (F : Forest) (H : Holds v live F) (x
         stands y l (inl q) = inl (ap (M .home) q ∙ sym (M .member (roots j) x (rw ej (inl refl)) .1))
         stands y l (inr w) = inr (under y l w)
 
-    pub freed-without : (r : Freed x v (top t) x (post t) (pre t)) → Holds (r .after) (Without live (x ∷ pre t)) (dropped F (x ∷ pre t) (roots j))
+    pub freed-without : (r : Freed x live [] v (top t) x (post t) (pre t)) → Holds (r .after) (Without live (x ∷ pre t)) (dropped F (x ∷ pre t) (roots j))
     freed-without r = holds-see v (r .after) (Without live (x ∷ pre t)) _ (λ k y l. r .alike .others k y (l .1 .0) (l .1 .1)) holds-without
 
   -- ---- all below x goes, and x stays
 
-  module _ (alone : Off x (pre t)) (r : Freed x v (top t) x (post t) (pre t)) where
+  module _ (alone : Off x (pre t)) (r : Freed x live [] v (top t) x (post t) (pre t)) where
     abbrev v′ : View
     v′ = r .after
 
