@@ -2,7 +2,8 @@
 use mathlib.Core.Bool.{Bool, true, false, cond, _&&_}
 use mathlib.Core.List.{List}
 use Prim.Native.Nat.{ℕ, zero, suc, _+_}
-use lib.Dec.{ltb, leb}
+use lib.Dec.{eqb, ltb, leb}
+use lib.ListN.{set}
 use Rattle.link.specs.Ids.{idOf, stampOf}
 use Rattle.link.specs.Words.{STAMP, word}
 use Rattle.link.specs.declared.header.Header.{Header}
@@ -13,11 +14,11 @@ use Rattle.examine.specs.Chain.{chainRun}
 use Rattle.examine.specs.declared.chain.Verdict.{Verdict}
 use Rattle.examine.specs.declared.chain.Verdict.the-variants.{Unsound}
 
--- The passes over links, on the scratch.
+-- The passes over links, on the scratch, with none marked in place 0.
 unfoldable pub linksRun : List ℕ → ℕ → List ℕ → List ℕ × Bool
 linksRun m used scratch =
-    let r = lookRun used m used 1 scratch in
-    cond (r .1) (climbsRun used used 1 (r .0)) r
+    let r = lookRun used m used 1 (set scratch 0 65536) in
+    cond (eqb used 0) (scratch, true) (cond (r .1) (climbsRun used used 1 (r .0)) r)
 
 -- Of a removed slot nothing is asked; a live one has kind 0 and its node passes all tests.
 unfoldable pub passes : List ℕ → ℕ → ℕ → Bool

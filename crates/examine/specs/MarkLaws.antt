@@ -1,4 +1,4 @@
--- The second pass, one step of a climb and one climb at a time; it writes to places of slots in use.
+-- The second pass, one step of a climb and one climb at a time; it writes to the place of none and those of slots in use.
 -- From its definitions alone.
 use mathlib.Core.Path.{_≡_, refl}
 use mathlib.Core.Bool.{Bool, true, false, cond, not}
@@ -8,7 +8,7 @@ use native.Mathlib.Omega.{arith}
 use native.Mathlib.Numerals.{sub-one}
 use lib.Dec.{eqb, ltb}
 use lib.ListN.{getD, set}
-use borrow.Author.Tests.{eqb-false, ltb-false}
+use borrow.Author.Tests.{ltb-false}
 use Rattle.examine.specs.Marks.{climbRun, climbsRun}
 use Rattle.examine.specs.ScratchLaws.{Within, within-none, within-set, within-both}
 
@@ -18,16 +18,14 @@ module _ (n used i x : ℕ) (scratch : List ℕ) where
   climb-out h = let e : n ≡ 0 = omega arith in rw e
 
   pub climb-step : 0 < n → climbRun n used i x scratch ≡
-      cond (eqb x 0) (scratch, true)
-      (cond (ltb used (getD scratch x 0)) (scratch, not (eqb (getD scratch x 0) (65536 + i)))
-      (climbRun (n - 1) used i (getD scratch x 0) (set scratch x (65536 + i))))
+      cond (ltb used (getD scratch x 0)) (scratch, not (eqb (getD scratch x 0) (65536 + i)))
+      (climbRun (n - 1) used i (getD scratch x 0) (set scratch x (65536 + i)))
   unfolding climbRun
   climb-step h = by n h
     where
       by : (k : ℕ) → 0 < k → climbRun k used i x scratch ≡
-          cond (eqb x 0) (scratch, true)
-          (cond (ltb used (getD scratch x 0)) (scratch, not (eqb (getD scratch x 0) (65536 + i)))
-          (climbRun (k - 1) used i (getD scratch x 0) (set scratch x (65536 + i))))
+          cond (ltb used (getD scratch x 0)) (scratch, not (eqb (getD scratch x 0) (65536 + i)))
+          (climbRun (k - 1) used i (getD scratch x 0) (set scratch x (65536 + i)))
       by zero g = absurd (omega arith)
       by (suc k) g = simp sub-one
 
@@ -50,29 +48,26 @@ module _ (n used i : ℕ) (scratch : List ℕ) where
       by zero g = absurd (omega arith)
       by (suc k) g = simp sub-one
 
-pub climb-within : (n used i x : ℕ) (scratch : List ℕ) → x ≤ used → Within used scratch (climbRun n used i x scratch .0)
+pub climb-within : (n used i x : ℕ) (scratch : List ℕ) → 1 ≤ used → x ≤ used → Within used scratch (climbRun n used i x scratch .0)
 unfolding climbRun
-climb-within zero used i x scratch b = within-none used scratch
-climb-within (suc n) used i x scratch b =
-    by (eqb x 0) (ltb used (getD scratch x 0)) refl refl (climb-within n used i (getD scratch x 0) (set scratch x (65536 + i)))
+climb-within zero used i x scratch a b = within-none used scratch
+climb-within (suc n) used i x scratch a b =
+    by (ltb used (getD scratch x 0)) refl (climb-within n used i (getD scratch x 0) (set scratch x (65536 + i)) a)
   where
-    by : (s t : Bool) → eqb x 0 ≡ s → ltb used (getD scratch x 0) ≡ t
+    by : (t : Bool) → ltb used (getD scratch x 0) ≡ t
         → (getD scratch x 0 ≤ used → Within used (set scratch x (65536 + i)) (climbRun n used i (getD scratch x 0) (set scratch x (65536 + i)) .0))
         → Within used scratch
-        (cond s (scratch, true)
         (cond t (scratch, not (eqb (getD scratch x 0) (65536 + i)))
-        (climbRun n used i (getD scratch x 0) (set scratch x (65536 + i)))) .0)
-    by true t e f ih = within-none used scratch
-    by false true e f ih = within-none used scratch
-    by false false e f ih =
-        let some : (x ≡ 0 → ⊥) = eqb-false x 0 e in
-        within-set used scratch x (65536 + i) (omega arith) b (ih (ltb-false used (getD scratch x 0) f))
+        (climbRun n used i (getD scratch x 0) (set scratch x (65536 + i))) .0)
+    by true e ih = within-none used scratch
+    by false e ih = within-set used scratch x (65536 + i) a b (ih (ltb-false used (getD scratch x 0) e))
 
-pub climbs-within : (n used i : ℕ) (scratch : List ℕ) → i + n ≤ used + 1 → Within used scratch (climbsRun n used i scratch .0)
+pub climbs-within : (n used i : ℕ) (scratch : List ℕ) → 1 ≤ used → i + n ≤ used + 1 → Within used scratch (climbsRun n used i scratch .0)
 unfolding climbsRun
-climbs-within zero used i scratch b = within-none used scratch
-climbs-within (suc n) used i scratch b =
-    by (climbRun (used + 2) used i i scratch .1) (climb-within (used + 2) used i i scratch (omega arith)) (climbs-within n used (i + 1) (climbRun (used + 2) used i i scratch .0) (omega arith))
+climbs-within zero used i scratch a b = within-none used scratch
+climbs-within (suc n) used i scratch a b =
+    by (climbRun (used + 2) used i i scratch .1) (climb-within (used + 2) used i i scratch a (omega arith))
+    (climbs-within n used (i + 1) (climbRun (used + 2) used i i scratch .0) a (omega arith))
   where
     by : (t : Bool) → Within used scratch (climbRun (used + 2) used i i scratch .0)
         → Within used (climbRun (used + 2) used i i scratch .0) (climbsRun n used (i + 1) (climbRun (used + 2) used i i scratch .0) .0)

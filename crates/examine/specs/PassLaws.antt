@@ -18,21 +18,26 @@ use Rattle.examine.specs.Slots.{look, lookRun}
 use Rattle.examine.specs.SlotLaws.{look-within}
 use Rattle.examine.specs.Marks.{climbRun, climbsRun}
 use Rattle.examine.specs.MarkLaws.{climb-within, climbs-within}
-use Rattle.examine.specs.ScratchLaws.{Within, within-both}
+use Rattle.examine.specs.ScratchLaws.{Within, within-none, within-set, within-both}
 use Rattle.examine.specs.Examination.{linksRun, passes, allPass, leading, linksOk}
 use Rattle.examine.specs.LeadingLaws.{all-pass, look-most, look-bad, leading-most, leading-look}
 
 -- ---- the second pass, along any function that stays within used
 
 module _ (f : ℕ → ℕ) (used : ℕ) (inside : (y : ℕ) → f y ≤ used) (small : used ≤ 65535) where
-  -- The list has f where there is no mark, and the mark above all slot numbers.
+  -- The list has f where there is no mark, and the mark above all slot numbers; at none it has 65,536.
   record Shows (M : ℕ → ℕ) (scratch : List ℕ) : Type 0 where
+    none : getD scratch 0 0 ≡ 65536
     unmarked : (y : ℕ) → 1 ≤ y → y ≤ used → M y ≡ 0 → getD scratch y 0 ≡ f y
     marked : (y : ℕ) → 1 ≤ y → y ≤ used → M y ≢ 0 → getD scratch y 0 ≡ 65536 + M y
 
   shows-at : (M : ℕ → ℕ) (scratch : List ℕ) (i x : ℕ) → 1 ≤ i → 1 ≤ x → x ≤ used → 2 * used ≤ length scratch
       → Shows M scratch → Shows (at M x i) (set scratch x (65536 + i))
-  shows-at M scratch i x hi hx b room S = record { unmarked = λ y a c e. one y a c e (ℕ-discrete y x); marked = λ y a c n. two y a c n (ℕ-discrete y x) }
+  shows-at M scratch i x hi hx b room S = record {
+    none = getD-set-other scratch x 0 (65536 + i) 0 (λ (e : 0 ≡ x). lt-irrefl 0 (omega arith)) ∙ S .none;
+    unmarked = λ y a c e. one y a c e (ℕ-discrete y x);
+    marked = λ y a c n. two y a c n (ℕ-discrete y x);
+  }
     where
       here : (y : ℕ) → y ≡ x → at M x i y ≡ i
       here y q = ap (at M x i) q ∙ at-same M x i
@@ -59,24 +64,25 @@ module _ (f : ℕ → ℕ) (used : ℕ) (inside : (y : ℕ) → f y ≤ used) (s
     where
       by : (1 ≤ x → Alike (climb f c (at M x i) i (f x)) (climbRun c used i (f x) (set scratch x (65536 + i)))) → (d : Dec (x ≡ 0)) (d′ : Dec (M x ≡ 0)) (d″ : Dec (M x ≡ i))
           → Alike (ite d (true, M) (ite d′ (climb f c (at M x i) i (f x)) (ite d″ (false, M) (true, M))))
-          (cond (eqb x 0) (scratch, true)
           (cond (ltb used (getD scratch x 0)) (scratch, not (eqb (getD scratch x 0) (65536 + i)))
-          (climbRun c used i (getD scratch x 0) (set scratch x (65536 + i)))))
-      by ih (yes e) d′ d″ = simp (eq-eqb x 0 e) (refl, S)
-      by ih (no n) (yes q) d″ = simp (ne-eqb x 0 n, S .unmarked x (omega arith) b q, le-ltb used (f x) (inside x)) (ih (omega arith))
+          (climbRun c used i (getD scratch x 0) (set scratch x (65536 + i))))
+      by ih (yes e) d′ d″ =
+          let w : getD scratch x 0 ≡ 65536 = ap (λ (y : ℕ). getD scratch y 0) e ∙ S .none in
+          simp (lt-ltb used (getD scratch x 0) (omega arith), ne-eqb (getD scratch x 0) (65536 + i) (λ (q : getD scratch x 0 ≡ 65536 + i). lt-irrefl 0 (omega arith))) (refl, S)
+      by ih (no n) (yes q) d″ = simp (S .unmarked x (omega arith) b q, le-ltb used (f x) (inside x)) (ih (omega arith))
       by ih (no n) (no k) (yes q) =
           let w = S .marked x (omega arith) b k in
-          simp (ne-eqb x 0 n, lt-ltb used (getD scratch x 0) (omega arith), eq-eqb (getD scratch x 0) (65536 + i) (omega arith)) (refl, S)
+          simp (lt-ltb used (getD scratch x 0) (omega arith), eq-eqb (getD scratch x 0) (65536 + i) (omega arith)) (refl, S)
       by ih (no n) (no k) (no h) =
           let w = S .marked x (omega arith) b k in
-          simp (ne-eqb x 0 n, lt-ltb used (getD scratch x 0) (omega arith), ne-eqb (getD scratch x 0) (65536 + i) (λ (e : getD scratch x 0 ≡ 65536 + i). h (omega arith))) (refl, S)
+          simp (lt-ltb used (getD scratch x 0) (omega arith), ne-eqb (getD scratch x 0) (65536 + i) (λ (e : getD scratch x 0 ≡ 65536 + i). h (omega arith))) (refl, S)
 
   climbs-alike : (c : ℕ) (M : ℕ → ℕ) (scratch : List ℕ) (i : ℕ) → 1 ≤ i → i + c ≤ used + 1 → 2 * used ≤ length scratch
       → Shows M scratch → climbsRun c used i scratch .1 ≡ scan f used c i M
   unfolding scan climbsRun Alike
   climbs-alike zero M scratch i hi b room S = refl
   climbs-alike (suc c) M scratch i hi b room S =
-      let w = climb-within (used + 2) used i i scratch (omega arith) in
+      let w = climb-within (used + 2) used i i scratch (omega arith) (omega arith) in
       let two : used + 2 ≡ suc (suc used) = omega arith in
       let one : i + 1 ≡ suc i = omega arith in
       let a : Alike (climb f (suc (suc used)) M i i) (climbRun (used + 2) used i i scratch) = rw two (climb-alike (suc (suc used)) M scratch i i hi (omega arith) room S) in
@@ -140,36 +146,75 @@ module _ (m : List ℕ) (used : ℕ) (small : used ≤ 65535) where
 
 -- ---- both
 
-pub links-is : (m : List ℕ) (used : ℕ) (scratch : List ℕ) → used ≤ 65535 → 2 * used ≤ length scratch → linksRun m used scratch .1 ≡ linksOk m used
-unfolding linksRun linksOk
-links-is m used scratch small room = by (allPass used m used 1) refl
-  where
-    R : List ℕ × Bool
-    R = lookRun used m used 1 scratch
+none-used : (m : List ℕ) → (allPass 0 m 0 1 && scan (leading m 0) 0 0 1 (λ _. 0)) ≡ true
+unfolding allPass scan
+none-used m = refl
 
-    shows : allPass used m used 1 ≡ true → Shows (leading m used) used (leading-most m used) small (λ _. 0) (R .0)
-    shows e = record {
-      unmarked = λ y a b _.
-          look-holds m used small used 1 scratch (omega arith) (omega arith) room e y .0 a (omega arith)
-          ∙ sym (leading-look m used y (look-most m used y (all-pass m used used 1 .0 e y a (omega arith))));
-      marked = λ y a b n. absurd (n refl);
-    }
+module _ (m : List ℕ) (used : ℕ) (scratch : List ℕ) where
+  -- The first pass over the scratch with none marked.
+  abbrev looked : List ℕ × Bool
+  looked = lookRun used m used 1 (set scratch 0 65536)
 
-    by : (t : Bool) → allPass used m used 1 ≡ t
-        → cond (R .1) (climbsRun used used 1 (R .0)) R .1 ≡ (allPass used m used 1 && scan (leading m used) used used 1 (λ _. 0))
-    by true e =
-        let w = look-within used m used 1 scratch (omega arith) (omega arith) in
-        simp (look-says m used small used 1 scratch, e) (climbs-alike (leading m used) used (leading-most m used) small used (λ _. 0) (R .0) 1 (omega arith) (omega arith) (omega arith) (shows e))
-    by false e = simp (look-says m used small used 1 scratch, e)
+  pub links-is : used ≤ 65535 → 2 * used ≤ length scratch → linksRun m used scratch .1 ≡ linksOk m used
+  unfolding linksRun linksOk
+  links-is small room = go (ℕ-discrete used 0)
+    where
+      room′ : 2 * used ≤ length (set scratch 0 65536)
+      room′ = rw (length-set scratch 0 65536) room
 
-pub links-within : (m : List ℕ) (used : ℕ) (scratch : List ℕ) → Within used scratch (linksRun m used scratch .0)
-unfolding linksRun
-links-within m used scratch =
-    by (R .1) (look-within used m used 1 scratch (omega arith) (omega arith)) (climbs-within used used 1 (R .0) (omega arith))
-  where
-    R : List ℕ × Bool
-    R = lookRun used m used 1 scratch
+      shows : 1 ≤ used → allPass used m used 1 ≡ true → Shows (leading m used) used (leading-most m used) small (λ _. 0) (looked .0)
+      shows a e = record {
+        none =
+            look-holds m used small used 1 (set scratch 0 65536) (omega arith) (omega arith) room′ e 0 .1 (omega arith)
+            ∙ getD-set-same scratch 0 65536 0 (omega arith);
+        unmarked = λ y a b _.
+            look-holds m used small used 1 (set scratch 0 65536) (omega arith) (omega arith) room′ e y .0 a (omega arith)
+            ∙ sym (leading-look m used y (look-most m used y (all-pass m used used 1 .0 e y a (omega arith))));
+        marked = λ y a b n. absurd (n refl);
+      }
 
-    by : (t : Bool) → Within used scratch (R .0) → Within used (R .0) (climbsRun used used 1 (R .0) .0) → Within used scratch (cond t (climbsRun used used 1 (R .0)) R .0)
-    by true v w = within-both used v w
-    by false v w = v
+      by : 1 ≤ used → (t : Bool) → allPass used m used 1 ≡ t
+          → cond (looked .1) (climbsRun used used 1 (looked .0)) looked .1 ≡ (allPass used m used 1 && scan (leading m used) used used 1 (λ _. 0))
+      by a true e =
+          let w = look-within used m used 1 (set scratch 0 65536) (omega arith) (omega arith) in
+          simp (look-says m used small used 1 (set scratch 0 65536), e)
+          (climbs-alike (leading m used) used (leading-most m used) small used (λ _. 0) (looked .0) 1 (omega arith) (omega arith) (rw (w .same-length) room′) (shows a e))
+      by a false e = simp (look-says m used small used 1 (set scratch 0 65536), e)
+
+      go : Dec (used ≡ 0) → cond (eqb used 0) (scratch, true) (cond (looked .1) (climbsRun used used 1 (looked .0)) looked) .1 ≡ (allPass used m used 1 && scan (leading m used) used used 1 (λ _. 0))
+      go (yes z) = rw z (sym (none-used m))
+      go (no n) = simp (ne-eqb used 0 n) (by (omega arith) (allPass used m used 1) refl)
+
+  pub links-within : Within used scratch (linksRun m used scratch .0)
+  unfolding linksRun
+  links-within = go (ℕ-discrete used 0)
+    where
+      by : (t : Bool) → Within used (set scratch 0 65536) (looked .0) → Within used (looked .0) (climbsRun used used 1 (looked .0) .0)
+          → Within used (set scratch 0 65536) (cond t (climbsRun used used 1 (looked .0)) looked .0)
+      by true v w = within-both used v w
+      by false v w = v
+
+      go : Dec (used ≡ 0) → Within used scratch (cond (eqb used 0) (scratch, true) (cond (looked .1) (climbsRun used used 1 (looked .0)) looked) .0)
+      go (yes z) = simp (eq-eqb used 0 z) (within-none used scratch)
+      go (no n) =
+          simp (ne-eqb used 0 n)
+          (within-set used scratch 0 65536 (omega arith) (omega arith)
+          (by (looked .1) (look-within used m used 1 (set scratch 0 65536) (omega arith) (omega arith)) (climbs-within used used 1 (looked .0) (omega arith) (omega arith))))
+
+  -- What the passes hand back, put together: both, and the first alone where it finds a fault.
+  pub links-climbed : {marked left climbed : List ℕ} {sound answer : Bool} → (used ≡ 0 → ⊥) → marked ≡ set scratch 0 65536
+      → (left, sound) ≡ lookRun used m used 1 marked → sound ≡ true → (climbed, answer) ≡ climbsRun used used 1 left
+      → (climbed, answer) ≡ linksRun m used scratch
+  unfolding linksRun
+  links-climbed some d e t f =
+      let q = e ∙ ap (λ (s : List ℕ). lookRun used m used 1 s) d in
+      let yes : looked .1 ≡ true = sym (ap (λ (p : List ℕ × Bool). p .1) q) ∙ t in
+      simp (ne-eqb used 0 some, yes) (f ∙ ap (λ (p : List ℕ × Bool). climbsRun used used 1 (p .0)) q)
+
+  pub links-stopped : {marked left : List ℕ} {sound : Bool} → (used ≡ 0 → ⊥) → marked ≡ set scratch 0 65536
+      → (left, sound) ≡ lookRun used m used 1 marked → sound ≡ false → (left, false) ≡ linksRun m used scratch
+  unfolding linksRun
+  links-stopped {left = left} some d e t =
+      let q = e ∙ ap (λ (s : List ℕ). lookRun used m used 1 s) d in
+      let no : looked .1 ≡ false = sym (ap (λ (p : List ℕ × Bool). p .1) q) ∙ t in
+      simp (ne-eqb used 0 some, no) (ap (λ (b : Bool). (left, b)) (sym t) ∙ q)

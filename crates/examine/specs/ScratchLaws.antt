@@ -15,8 +15,8 @@ pub record Within (used : ℕ) (before after : List ℕ) : Type 0 where
 pub within-none : (used : ℕ) (scratch : List ℕ) → Within used scratch scratch
 within-none used scratch = record { same-length = refl; same-zeroed = refl }
 
--- one write at a slot in use, and more behind it
-pub within-set : (used : ℕ) (scratch : List ℕ) (x v : ℕ) {after : List ℕ} → 1 ≤ x → x ≤ used → Within used (set scratch x v) after → Within used scratch after
+-- one write at none or at a slot in use, and more behind it
+pub within-set : (used : ℕ) (scratch : List ℕ) (x v : ℕ) {after : List ℕ} → 1 ≤ used → x ≤ used → Within used (set scratch x v) after → Within used scratch after
 unfolding zeroed
 within-set used scratch x v a b w = record {
   same-length = w .same-length ∙ length-set scratch x v;

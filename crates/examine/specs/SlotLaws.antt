@@ -38,7 +38,7 @@ look-within (suc n) m used s scratch a b = by (eqb (look m used s) bad) (look-wi
     by : (t : Bool) → Within used (set scratch s (look m used s)) (lookRun n m used (s + 1) (set scratch s (look m used s)) .0)
         → Within used scratch (cond t (scratch, false) (lookRun n m used (s + 1) (set scratch s (look m used s))) .0)
     by true w = within-none used scratch
-    by false w = within-set used scratch s (look m used s) a (omega arith) w
+    by false w = within-set used scratch s (look m used s) (omega arith) (omega arith) w
 
 prior-most : (m : List ℕ) (used x parent previous : ℕ) → previousOk m used x parent previous ≡ true → priorSlot parent previous ≤ used
 unfolding previousOk leadOk priorSlot

@@ -2,6 +2,7 @@
 use crate::chain::Verdict;
 use crate::chain::free_chain;
 use crate::marks::climb_all;
+use crate::marks::mark_none;
 use crate::slots::look_at_all;
 use link::header::Header;
 ghost use mathlib.Core.Path.{_≡_};
@@ -23,11 +24,15 @@ pub fn zero_fill(scratch: &mut [u32], n: usize)
     }
 }
 
-// The passes over links.
+// The passes over links; where no slot is in use they write nothing.
 pub fn links_ok(words: &[u32], used: u32, scratch: &mut [u32]) -> bool
     requires { ⌜ (used ≤ 65535) × (used * width ≤ length (now words)) × (2 * used ≤ length (now scratch)) ⌝ }
     ensures { λ r. ⌜ (now (scratch .exit), r) ≡ linksRun (now (words .entry)) used (now (scratch .entry)) ⌝ }
 {
+    if used == 0 {
+        return true;
+    }
+    mark_none(scratch);
     if look_at_all(words, used, scratch) {
         return climb_all(scratch, used);
     }

@@ -3,7 +3,7 @@ use mathlib.Core.Path.{_≡_, _∙_, sym}
 use Prim.Native.Nat.{_+_, _≤_}
 use lib.ListN.{length, length-set}
 use borrow.Author.Needs.{needs}
-use borrow.Author.Tests.{eq-eqb, ne-eqb, lt-ltb, le-ltb}
+use borrow.Author.Tests.{lt-ltb, le-ltb}
 use Rattle.examine.specs.Marks.{climbRun}
 use Rattle.examine.specs.MarkLaws.{climb-out, climb-step}
 use Rattle.examine.proofs.marks.climb.Statement.{statement}
@@ -24,16 +24,6 @@ add-left c = search needs
 loop-holds : tie.Need-loop-holds Inv-loop μ-loop
 loop-holds c = search needs
 
-same-length : tie.Need-same-length Inv-loop μ-loop
-same-length c = search needs
-
-returns : tie.Need-returns Inv-loop μ-loop
-returns c =
-    let at = c .before .before .loop in
-    let a = c .before .before .before .args in
-    sym (simp (eq-eqb (at .x) 0 (c .if1 .taken)) at (climb-step (at .left) (a .used) (a .i) (at .x) (at .scratch) (c .before .loop-test .taken)))
-    ∙ at .inv .2
-
 cast-at : tie.Need-cast-at Inv-loop μ-loop
 cast-at c = search needs
 
@@ -43,15 +33,15 @@ mul-v c = search needs
 slice-read-v : tie.Need-slice-read-v Inv-loop μ-loop
 slice-read-v c = search needs
 
-same-length-2 : tie.Need-same-length-2 Inv-loop μ-loop
-same-length-2 c = search needs
+same-length : tie.Need-same-length Inv-loop μ-loop
+same-length c = search needs
 
-returns-2 : tie.Need-returns-2 Inv-loop μ-loop
-returns-2 c =
-    let at = c .before .before .before .before .loop in
-    let a = c .before .before .before .before .before .args in
-    sym (simp (ne-eqb (at .x) 0 (c .before .before .if1 .left), lt-ltb (a .used) _ (c .if2 .taken)) at
-    (climb-step (at .left) (a .used) (a .i) (at .x) (at .scratch) (c .before .before .before .loop-test .taken)))
+returns : tie.Need-returns Inv-loop μ-loop
+returns c =
+    let at = c .before .before .before .loop in
+    let a = c .before .before .before .before .args in
+    sym (simp (lt-ltb (a .used) _ (c .if1 .taken)) at
+    (climb-step (at .left) (a .used) (a .i) (at .x) (at .scratch) (c .before .before .loop-test .taken)))
     ∙ at .inv .2
 
 mul-scratch : tie.Need-mul-scratch Inv-loop μ-loop
@@ -68,20 +58,20 @@ loop-less c = search needs
 
 loop-again : tie.Need-loop-again Inv-loop μ-loop
 loop-again c =
-    let at = c .before .before .before .before .loop in
-    let a = c .before .before .before .before .before .args in (
+    let at = c .before .before .before .loop in
+    let a = c .before .before .before .before .args in (
       simp length-set (at .inv .0),
-      c .if2 .left,
-      sym (simp (ne-eqb (at .x) 0 (c .before .before .if1 .left), le-ltb (a .used) _ (c .if2 .left)) at
-          (climb-step (at .left) (a .used) (a .i) (at .x) (at .scratch) (c .before .before .before .loop-test .taken)))
+      c .if1 .left,
+      sym (simp (le-ltb (a .used) _ (c .if1 .left)) at
+          (climb-step (at .left) (a .used) (a .i) (at .x) (at .scratch) (c .before .before .loop-test .taken)))
           ∙ at .inv .2,
     )
 
-same-length-3 : tie.Need-same-length-3 Inv-loop μ-loop
-same-length-3 c = search needs
+same-length-2 : tie.Need-same-length-2 Inv-loop μ-loop
+same-length-2 c = search needs
 
-returns-3 : tie.Need-returns-3 Inv-loop μ-loop
-returns-3 c = sym (climb-out _ _ _ _ _ (c .loop-test .left)) ∙ c .before .loop .inv .2
+returns-2 : tie.Need-returns-2 Inv-loop μ-loop
+returns-2 c = sym (climb-out _ _ _ _ _ (c .loop-test .left)) ∙ c .before .loop .inv .2
 
 pub climb-spec : {M : Type 1} → statement M
 climb-spec =
@@ -92,17 +82,15 @@ climb-spec =
     add-mark
     add-left
     loop-holds
-    same-length
-    returns
     cast-at
     mul-v
     slice-read-v
-    same-length-2
-    returns-2
+    same-length
+    returns
     mul-scratch
     slice-write-scratch
     sub-left
     loop-less
     loop-again
-    same-length-3
-    returns-3)
+    same-length-2
+    returns-2)
