@@ -12,7 +12,6 @@
 --   Set.set-sound, Set.set-ready, Set.set-forest   memory is sound, ready, holds a forest exactly as before
 --   Set.set-get, Set.set-reads               what reads say afterwards
 -- Clear.clear-ready, Clear.clear-none: ready, and nothing found. Census.census-adds: the four numbers add up to the capacity.
--- Census.live-exactly: the slots counted live are those of the found identifiers. Vectors.P1, Vectors.P3-new, Vectors.P3-get.
 pub mod Slots
 pub mod Made
 pub mod Handouts
@@ -22,4 +21,3 @@ pub mod Order
 pub mod Set
 pub mod Clear
 pub mod Census
-pub mod Vectors

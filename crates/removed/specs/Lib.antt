@@ -1,12 +1,10 @@
 -- Theorems about removal, on words:
 --   Calls            the three calls by document 01's rules: nodes gone in order, the forest after, ready again, turns to spare
 --   GoneLaws.gone-answers, gone-lost   every other identifier is found as before, those gone are not
---   Vectors.P2, P4   document 01's examples
 -- Below them: a node freed (FreeWords, FreeChain), a removal on its way (Stands), the loop (Loop, Below), a node taken out (Alone,
 -- TreeStays), children in another place (Hoisted), the rules as edits of chains (NodeRule, SubtreeRule).
 pub mod Gone
 pub mod GoneLaws
-pub mod Vectors
 pub mod Queue
 pub mod FreeWords
 pub mod FreeChain
