@@ -3,17 +3,14 @@
 // first free, last free, the number of scratch words lent, and the words lent.
 // An answer line has the validator's number and result, what became of the scratch, the guard's number, and what became of the scratch
 // then: `kept` where every word is as before, `zero` where the first 2 × used words are zero and the others as before, else `other`.
-mod scratch;
 mod text;
 
-use crate::scratch::fill;
-use crate::scratch::report;
 use crate::text::line_end;
 use crate::text::numbers_of;
 use link::header::Header;
 use sound::guard;
 use sound::validate;
-ghost use Prim.Native.Nat.{_<_};
+ghost use Prim.Native.Nat.{_<_, _≤_};
 ghost use lib.ListN.{length};
 
 // The validator's number and result, and the scratch.
@@ -99,4 +96,50 @@ fn main() {
     let mut text = [0u8; 131072];
     let n = io::read_full(0, &mut text);
     lines(&text[..n]);
+}
+
+// What stands in every scratch word before a call.
+const BEFORE: u32 = 3735928559;
+
+fn fill(scratch: &mut [u32]) {
+    let mut i = 0;
+    while i < scratch.len() {
+        scratch[i] = BEFORE;
+        i += 1;
+    }
+}
+
+// Whether the words from one place up to another are all v.
+fn all_are(scratch: &[u32], from: usize, to: usize, v: u32) -> bool
+    requires { ⌜ to ≤ length (now scratch) ⌝ }
+{
+    let mut i = from;
+    while i < to {
+        if scratch[i] != v {
+            return false;
+        }
+        i += 1;
+    }
+    true
+}
+
+// Whether the first n words are zero and the others as before the call.
+fn zeroed(scratch: &[u32], n: usize) -> bool {
+    if n <= scratch.len() {
+        if all_are(scratch, 0, n, 0) {
+            return all_are(scratch, n, scratch.len(), BEFORE);
+        }
+    }
+    false
+}
+
+// Writes what became of the scratch.
+fn report(scratch: &[u32], used: u32) {
+    if all_are(scratch, 0, scratch.len(), BEFORE) {
+        io::write_all(1, b" kept");
+    } else if zeroed(scratch, 2 * (used as usize)) {
+        io::write_all(1, b" zero");
+    } else {
+        io::write_all(1, b" other");
+    }
 }

@@ -1,8 +1,8 @@
--- The contract of `validated::scratch::all_are`.
+-- The contract of `validated::all_are`.
 use Prim.Native.Nat.{_-_}
 use borrow.Author.Needs.{needs}
-use Rattle.validated.proofs.scratch.all_are.Statement.{statement}
-use Rattle.validated.proofs.scratch.all_are.Tie as tie
+use Rattle.validated.proofs.all_are.Statement.{statement}
+use Rattle.validated.proofs.all_are.Tie as tie
 
 abbrev Inv-loop : tie.InvT-loop
 Inv-loop scratch from to v i₀ i = Unit {0}

@@ -1,10 +1,10 @@
--- The contract of `validated::scratch::fill`.
+-- The contract of `validated::fill`.
 use mathlib.Core.Path.{_≡_}
 use Prim.Native.Nat.{_-_}
 use lib.ListN.{length}
 use borrow.Author.Needs.{needs}
-use Rattle.validated.proofs.scratch.fill.Statement.{statement}
-use Rattle.validated.proofs.scratch.fill.Tie as tie
+use Rattle.validated.proofs.fill.Statement.{statement}
+use Rattle.validated.proofs.fill.Tie as tie
 
 abbrev Inv-loop : tie.InvT-loop
 Inv-loop scratch₀ i₀ scratch i = length scratch ≡ length scratch₀
