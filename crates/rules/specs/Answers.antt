@@ -42,6 +42,26 @@ FULL = 7
 abbrev pub ROOM : ℕ
 ROOM = 8
 
+-- unknown code, or an unused byte or argument not zero
+abbrev pub COMMAND : ℕ
+COMMAND = 9
+
+-- 1 to 11 bytes left at the end of a trace
+abbrev pub PART : ℕ
+PART = 10
+
+-- image mark is not LFT
+abbrev pub MARK : ℕ
+MARK = 11
+
+-- image version is not 1
+abbrev pub VERSION : ℕ
+VERSION = 12
+
+-- image under 11 bytes or not 11 + 28 × used
+abbrev pub LENGTH : ℕ
+LENGTH = 13
+
 -- Order of tests: FRAME, SCRATCH, INVALID, SELF, REMOVED, ANCESTOR, FULL, ROOM, of those that apply; false where one does not.
 unfoldable pub refusal : Bool → Bool → Bool → Bool → Bool → Bool → Bool → Bool → ℕ
 refusal frame scratch invalid self removed ancestor full room =

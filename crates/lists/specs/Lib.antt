@@ -1,0 +1,7 @@
+pub mod Orders
+pub mod OrderLaws
+pub mod LoopLaws
+pub mod Levels
+pub mod LevelLaws
+pub mod Listing
+pub mod ListingLaws

@@ -1,0 +1,4 @@
+// Walking: edges, what follows each, and the stepped walk. Words are only read.
+pub mod edge;
+pub mod run;
+pub mod walk;
