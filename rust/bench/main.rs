@@ -67,13 +67,13 @@ fn forests(slots: usize) -> Vec<(&'static str, Arena<u32>)> {
 
 /// Medians in seconds: the crate's, the validator's.
 fn compare(arena: &Arena<u32>, rounds: usize, calls: usize) -> (f64, f64) {
-    let (words, header) = arena.to_words();
+    let (mut words, mut header) = arena.to_words();
     let mut scratch = vec![1; 2 * header[0] as usize];
-    assert_eq!(lift::validate(&words, &header, &mut scratch), (0, 1));
+    assert_eq!(lift::validate(&mut words, &mut header, &mut scratch), (0, 1));
     let (mut theirs, mut ours) = (Vec::new(), Vec::new());
     for _ in 0..rounds {
         theirs.push(time(calls, || assert!(black_box(arena).validate())));
-        ours.push(time(calls, || assert_eq!(lift::validate(black_box(&words), &header, &mut scratch).1, 1)));
+        ours.push(time(calls, || assert_eq!(lift::validate(black_box(&mut words), &mut header, &mut scratch).1, 1)));
     }
     (median(&mut theirs), median(&mut ours))
 }

@@ -14,11 +14,12 @@ unsafe extern "C" {
     ) -> u32;
 }
 
-/// The number and the result.
-pub fn validate(words: &[u32], header: &[u32; 3], scratch: &mut [u32]) -> (u32, u32) {
+/// The number and the result. Words and header are lent as if they could be written, so that a caller can see that they stay.
+pub fn validate(words: &mut [u32], header: &mut [u32; 3], scratch: &mut [u32]) -> (u32, u32) {
     // Not 0 and not 1: the call always writes it.
     let mut result = 77;
-    // Safe: slices with their lengths, three words, one word, none of them overlapping another that is written.
-    let number = unsafe { lift_validate(words.as_ptr(), words.len(), header.as_ptr(), scratch.as_mut_ptr(), scratch.len(), &mut result) };
+    // Safe: slices with their lengths, three words, one word, no two of them overlapping.
+    let number =
+        unsafe { lift_validate(words.as_mut_ptr(), words.len(), header.as_mut_ptr(), scratch.as_mut_ptr(), scratch.len(), &mut result) };
     (number, result)
 }

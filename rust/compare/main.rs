@@ -56,8 +56,8 @@ impl Tally {
         self.tried += 1;
         let before: Vec<u32> = (0..lent as u32).map(|i| i.wrapping_add(self.tried as u32) | 1).collect();
         let mut scratch = before.clone();
-        let words_before = words.to_vec();
-        let got = lift::validate(words, &header, &mut scratch);
+        let (mut words_lent, mut header_lent) = (words.to_vec(), header);
+        let got = lift::validate(&mut words_lent, &mut header_lent, &mut scratch);
         let mut after = before;
         let want = match paper::unfit(words, header, lent) {
             0 => {
@@ -71,7 +71,7 @@ impl Tally {
         };
         assert!(got == want, "answered {got:?}, document 01 {want:?}: {lent} scratch words, {header:?} {words:?}");
         assert!(scratch == after, "scratch: {lent} words, {header:?} {words:?}");
-        assert!(words == words_before, "words are written: {header:?} {words:?}");
+        assert!(words == words_lent && header == header_lent, "words or header are written: {header:?} {words:?}");
     }
 
     /// Whether memory is sound, by the reading and by the crate.
