@@ -10,7 +10,7 @@ use lib.Seq.{sets, sets-eq, length-sets, take-at, drop-at, drop-drop, length-tak
 use borrow.Author.Tests.{lt-ltb, le-ltb, ne-eqb}
 use Rattle.walk.specs.Written.{written}
 use Rattle.lists.specs.Orders.{ordered}
-use Rattle.lists.specs.OrderLaws.{storedAt}
+use Rattle.lists.specs.Storing.{storedAt}
 use Rattle.lists.specs.LoopLaws.{ordered-most}
 use Rattle.lists.specs.Levels.{levelRun, levelOrder}
 use Rattle.lists.specs.declared.order.Order.the-variants.{Children}

@@ -1,4 +1,5 @@
 pub mod Orders
+pub mod Storing
 pub mod OrderLaws
 pub mod LoopLaws
 pub mod Levels

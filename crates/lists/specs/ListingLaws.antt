@@ -14,7 +14,8 @@ use Rattle.rules.specs.declared.answer.Reply.{Reply}
 use Rattle.sound.specs.Guard.{scratchAfter, guardNo, guardedRead}
 use Rattle.walk.specs.Written.{written}
 use Rattle.lists.specs.Orders.{ordered}
-use Rattle.lists.specs.OrderLaws.{storedAt, stored-whole}
+use Rattle.lists.specs.Storing.{storedAt}
+use Rattle.lists.specs.OrderLaws.{stored-whole}
 use Rattle.lists.specs.Levels.{levelOrder}
 use Rattle.lists.specs.Listing.{listNo, listing, listed, levelsListed, counted, guardedList}
 use Rattle.lists.specs.declared.order.Order.{Order}

@@ -9,7 +9,8 @@ use lib.Dec.{leb, ltb}
 use lib.ListN.{length}
 use borrow.Author.Tests.{ltb-true, ltb-false, le-leb, lt-leb}
 use Rattle.lists.specs.Orders.{firstOf, stepOf, keepB, ordered}
-use Rattle.lists.specs.OrderLaws.{putIf, storedAt, stored-done, stored-place, listFrom, from-out, from-none, from-most, length-step, stored-step, kept-some}
+use Rattle.lists.specs.Storing.{putIf, storedAt}
+use Rattle.lists.specs.OrderLaws.{stored-done, stored-place, listFrom, from-out, from-none, from-most, length-step, stored-step, kept-some}
 use Rattle.lists.specs.declared.order.Order.{Order}
 
 -- What is listed of at most n nodes from x.

@@ -7,12 +7,13 @@ use Prim.Native.Nat.{_-_, ℕ, zero, suc, _+_, _<_, _≤_}
 use native.Mathlib.Numerals.{sub-one}
 use native.Mathlib.Omega.{arith}
 use lib.Dec.{eqb}
-use lib.ListN.{length, set}
+use lib.ListN.{length}
 use lib.Seq.{sets}
 use borrow.Author.Tests.{eq-eqb, ne-eqb}
 use Rattle.link.specs.Words.{PARENT, NEXT, link}
 use Rattle.walk.specs.Written.{written}
 use Rattle.walk.specs.WrittenLaws.{sets-written, sets-more}
+use Rattle.lists.specs.Storing.{putIf, storedAt}
 use Rattle.lists.specs.Orders.{along, kept, afterSubtree}
 
 -- What comes behind a subtree, one ancestor at a time.
@@ -30,14 +31,6 @@ module _ (n : ℕ) (m : List ℕ) (root y : ℕ) where
           cond (eqb y root) 0 (cond (eqb (link m y NEXT) 0) (afterSubtree (k - 1) m root (link m y PARENT)) (link m y NEXT))
       by zero g = absurd (omega arith)
       by (suc k) g = simp sub-one
-
--- x at a place, where it is kept, and the place behind it then.
-unfoldable pub putIf : Bool → List ℕ → ℕ → ℕ → List ℕ × ℕ
-putIf keep list at x = cond keep (set list at x, at + 1) (list, at)
-
--- xs stored from a place on, and the place behind it.
-unfoldable pub storedAt : List ℕ → List ℕ → ℕ → List ℕ × ℕ
-storedAt xs list at = (sets list at xs, at + length xs)
 
 pub stored-done : (list : List ℕ) (at : ℕ) → storedAt [] list at ≡ (list, at)
 unfolding storedAt

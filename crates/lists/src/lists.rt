@@ -12,7 +12,7 @@ ghost use Prim.Native.Nat.{_+_, _≤_, _<_};
 ghost use lib.Dec.{ltb};
 ghost use lib.ListN.{length};
 ghost use Rattle.lists.specs.Orders.{ordered};
-ghost use Rattle.lists.specs.OrderLaws.{putIf, storedAt};
+ghost use Rattle.lists.specs.Storing.{putIf, storedAt};
 ghost use Rattle.lists.specs.Listing.{listed, counted};
 
 fn one_if(keep: bool) -> u32

@@ -2,5 +2,7 @@ pub mod Written
 pub mod WrittenLaws
 pub mod Edges
 pub mod Walks
-pub mod WalkLaws
 pub mod Runs
+pub mod WalkLaws
+pub mod RunLaws
+pub mod Codes

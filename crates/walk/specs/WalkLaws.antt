@@ -12,17 +12,12 @@ use Rattle.link.specs.Found.{foundB}
 use Rattle.walk.specs.Edges.{edgeId, edgeCode, nextOfNext, stepFrom}
 use Rattle.walk.specs.Written.{written}
 use Rattle.walk.specs.WrittenLaws.{sets-written, sets-more}
+use Rattle.walk.specs.Runs.{yieldFrom}
 use Rattle.walk.specs.Walks.{before, traversal, codes, yieldedTo, yielded}
 use Rattle.walk.specs.declared.edge.Edge.{Edge}
 use Rattle.walk.specs.declared.edge.Step.{Step}
 use Rattle.walk.specs.declared.edge.Step.the-variants as S
 use Rattle.walk.specs.declared.walk.Walked.{Walked}
-
--- At most n edges more, with i of them stored so far: the list, how many there are, and what is next.
-unfoldable pub yieldFrom : ℕ → List ℕ → ℕ → ℕ → Step → List ℕ → ℕ → List ℕ × ℕ × Step
-yieldFrom n m used root next list i =
-    let t = traversal n m used root next in
-    (sets list i (codes (t .0)), i + length (t .0), t .1)
 
 module _ (n : ℕ) (m : List ℕ) (used root : ℕ) (list : List ℕ) (i : ℕ) where
   pub yield-out : (next : Step) → n ≤ 0 → yieldFrom n m used root next list i ≡ (list, i, next)
@@ -128,9 +123,3 @@ module _ (n : ℕ) (m : List ℕ) (used root : ℕ) (next : Step) (list : List �
   turn-lost e {id} {found} p q f t =
       let lost : foundB m used (edgeId e) ≡ false = ap (foundB m used) (sym q) ∙ sym f ∙ t in
       sym (yield-lost n m used root list i e some lost) ∙ ap (λ (s : Step). yieldFrom n m used root s list i) (sym p) ∙ inv
-
-  pub turn-over : next ≡ S.Over → (list, i, S.Over) ≡ whole
-  turn-over p = sym (yield-over n m used root list i some) ∙ ap (λ (s : Step). yieldFrom n m used root s list i) (sym p) ∙ inv
-
-  pub turn-broken : next ≡ S.Broken → (list, i, S.Broken) ≡ whole
-  turn-broken p = sym (yield-broken n m used root list i some) ∙ ap (λ (s : Step). yieldFrom n m used root s list i) (sym p) ∙ inv

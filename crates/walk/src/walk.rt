@@ -1,7 +1,8 @@
 // The stepped walk: a budget of edges at a time, over any memory. It needs neither scratch nor ready memory.
 use crate::edge::Edge;
 use crate::edge::Step;
-use crate::run::write_run;
+use crate::run::step_at;
+use crate::run::write_from;
 use link::header::Header;
 use link::id::found;
 use link::words::capacity;
@@ -86,24 +87,20 @@ pub fn walk_edges(
     requires { ⌜ (used ≤ 65535) × (used * width ≤ length (now words)) × (budget ≤ length (now list)) ⌝ }
     ensures { λ r. ⌜ (now (list .exit), r) ≡ yielded (now (words .entry)) used root start budget (now (list .entry)) ⌝ }
 {
-    let mut next = start;
-    let mut count: u32 = 0;
-    while count < budget {
-        match next {
-            Step::Edge(e) => {
-                let r = write_run(words, used, root, e, budget, list, count);
-                count = r.count;
-                next = r.next;
-            }
-            Step::Over => {
-                return yielded_to(root, count, Step::Over);
-            }
-            Step::Broken => {
-                return yielded_to(root, count, Step::Broken);
-            }
-        }
+    if budget == 0 {
+        return yielded_to(root, 0, start);
     }
-    yielded_to(root, count, next)
+    match start {
+        Step::Edge(e) => {
+            let r = write_from(words, used, root, e, budget, list);
+            let way = r.way;
+            let id = r.id;
+            let count = r.count;
+            yielded_to(root, count, step_at(way, id))
+        }
+        Step::Over => yielded_to(root, 0, Step::Over),
+        Step::Broken => yielded_to(root, 0, Step::Broken),
+    }
 }
 
 pub fn walk(words: &[u32], h: Header, from: Traverse, budget: u32, list: &mut [u32]) -> Walked

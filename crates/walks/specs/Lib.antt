@@ -1,5 +1,6 @@
 -- Theorems on sound memory, each for a node that is found; `Stepped.treeOf` is its tree (`forest`), `Orders` what is listed of a tree:
 --   Trails.divided-whole    on any memory: any division into budgets is the walk with their sum
+--   Coded.coded-walk        a walk continued from its two numbers, as callers from outside hold it, goes on as it would have
 --   Stepped.walk-yields     which yields the tree's edges, in order, as far as the budgets go,
 --   Stepped.walk-ends       and is over once they reach the number of edges
 --   Stepped.walk-once       each node starts once, in preorder, and ends once, in postorder
@@ -10,6 +11,7 @@
 --   Equal.compared-exact    subtree_eq: 1 exactly when the trees with their numbers are one
 pub mod Orders
 pub mod Trails
+pub mod Coded
 pub mod Stepped
 pub mod Steps
 pub mod Preorder

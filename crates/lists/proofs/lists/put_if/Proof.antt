@@ -1,6 +1,6 @@
 -- The contract of `lists::lists::put_if`.
 use borrow.Author.Needs.{needs}
-use Rattle.lists.specs.OrderLaws.{putIf}
+use Rattle.lists.specs.Storing.{putIf}
 use Rattle.lists.proofs.lists.put_if.Statement.{statement}
 use Rattle.lists.proofs.lists.put_if.Tie as tie
 

@@ -6,7 +6,7 @@ use lib.ListN.{length}
 use borrow.Author.Needs.{needs}
 use denote.Ref.{now}
 use Rattle.lists.specs.Orders.{ordered}
-use Rattle.lists.specs.OrderLaws.{storedAt}
+use Rattle.lists.specs.Storing.{storedAt}
 use Rattle.lists.specs.LoopLaws.{restOf, rest-whole, rest-none, rest-out, store-place, store-more, store-end}
 use Rattle.lists.proofs.lists.write_listed.Statement.{statement}
 use Rattle.lists.proofs.lists.write_listed.Tie as tie

@@ -1,15 +1,17 @@
 -- The contract of `walk::run::write_ends`.
-use mathlib.Core.Path.{_≡_, _∙_, sym, ap, refl}
+use mathlib.Core.Path.{_∙_, sym, ap, refl}
 use Prim.Native.Nat.{ℕ, _-_, _+_, _<_}
 use native.Mathlib.Omega.{arith}
-use lib.ListN.{length, set}
+use lib.ListN.{set}
 use borrow.Author.Needs.{needs}
 use denote.Ref.{now}
-use Rattle.link.specs.Words.{PARENT, NEXT, FIRST, word}
+use Rattle.link.specs.Words.{PARENT, NEXT, word}
 use Rattle.link.specs.FoundLaws.{found-is}
-use Rattle.walk.specs.Runs.{Gone, Going, gone-edge, gone-lost, gone-moves, gone-none, after-root, after-sibling, after-parent, after-top}
-use Rattle.walk.specs.declared.edge.Edge.the-variants.{Start, End}
+use Rattle.walk.specs.Runs.{Gone}
+use Rattle.walk.specs.RunLaws.{gone-edge, ran-edge, ran-lost, ran-full, gone-none, starting-ending, over-ending, lost-ending, after-root, after-sibling, after-parent, after-top}
+use Rattle.walk.specs.declared.edge.Edge.the-variants.{End}
 use Rattle.walk.specs.declared.edge.Step.the-variants as S
+use Rattle.walk.specs.declared.run.Way.the-variants as W
 use Rattle.walk.proofs.run.write_ends.Statement.{statement}
 use Rattle.walk.proofs.run.write_ends.Tie as tie
 
@@ -36,6 +38,7 @@ add-list c =
     let a = c .before .before .before .before .before .before .args in
     let at = c .before .before .before .loop in
     let f = found-is (now (a .words)) (a .used) (at .id) (sym (c .before .found-within .ensures) ∙ c .if1 .taken) in
+    let p = c .before .before .before .before .before .before .pre .0 in
     omega arith
 
 mul-list : tie.Need-mul-list Inv-loop μ-loop
@@ -56,8 +59,9 @@ returns c =
     let at = c .before .before .before .before .loop in
     let h : at .count < a .budget = c .before .before .before .loop-test .taken in
     let b = at .inv .from in
-    gone-moves (gone-edge (End (at .id)) (at .list) (at .count) (at .inv) h refl (c .before .before .found-within .ensures) (c .before .if1 .taken) refl
-    (after-root (now (a .words)) (a .used) (a .root) (at .id) (c .before .before .found-within .ensures) (c .before .if1 .taken) (c .if2 .taken))) (omega arith)
+    ran-edge W.Ending W.Over (at .id) (set (at .list) (at .count) (at .id + 32768)) (at .count + 1) over-ending (omega arith)
+    (gone-edge (End (at .id)) (at .list) (at .count) (at .inv) h refl (c .before .before .found-within .ensures) (c .before .if1 .taken) refl
+    (after-root (now (a .words)) (a .used) (a .root) (at .id) (c .before .before .found-within .ensures) (c .before .if1 .taken) (c .if2 .taken)))
 
 slot-of-requires : tie.Need-slot-of-requires Inv-loop μ-loop
 slot-of-requires c κs = search needs
@@ -78,8 +82,9 @@ returns-2 c =
     let at = c .before .before .before .before .before .before .before .loop in
     let h : at .count < a .budget = c .before .before .before .before .before .before .loop-test .taken in
     let b = at .inv .from in
-    gone-moves (gone-edge (End (at .id)) (at .list) (at .count) (at .inv) h refl (c .before .before .before .before .before .found-within .ensures) (c .before .before .before .before .if1 .taken) refl
-    (after-sibling (now (a .words)) (a .used) (a .root) (at .id) (c .before .before .before .before .before .found-within .ensures) (c .before .before .before .before .if1 .taken) (c .before .before .before .if2 .left) (c .before .get-word .ensures ∙ ap (λ (s : ℕ). word (now (a .words)) s NEXT) (c .before .before .slot-of .ensures)) (c .if3 .taken))) (omega arith)
+    ran-edge W.Ending W.Starting (c .before .get-word .result) (set (at .list) (at .count) (at .id + 32768)) (at .count + 1) starting-ending (omega arith)
+    (gone-edge (End (at .id)) (at .list) (at .count) (at .inv) h refl (c .before .before .before .before .before .found-within .ensures) (c .before .before .before .before .if1 .taken) refl
+    (after-sibling (now (a .words)) (a .used) (a .root) (at .id) (c .before .before .before .before .before .found-within .ensures) (c .before .before .before .before .if1 .taken) (c .before .before .before .if2 .left) (c .before .get-word .ensures ∙ ap (λ (s : ℕ). word (now (a .words)) s NEXT) (c .before .before .slot-of .ensures)) (c .if3 .taken)))
 
 slot-of-requires-2 : tie.Need-slot-of-requires-2 Inv-loop μ-loop
 slot-of-requires-2 c κs = search needs
@@ -100,8 +105,9 @@ returns-3 c =
     let at = c .before .before .before .before .before .before .before .before .before .before .loop in
     let h : at .count < a .budget = c .before .before .before .before .before .before .before .before .before .loop-test .taken in
     let b = at .inv .from in
-    gone-moves (gone-edge (End (at .id)) (at .list) (at .count) (at .inv) h refl (c .before .before .before .before .before .before .before .before .found-within .ensures) (c .before .before .before .before .before .before .before .if1 .taken) refl
-    (after-top (now (a .words)) (a .used) (a .root) (at .id) (c .before .before .before .before .before .before .before .before .found-within .ensures) (c .before .before .before .before .before .before .before .if1 .taken) (c .before .before .before .before .before .before .if2 .left) (c .before .before .before .before .get-word .ensures ∙ ap (λ (s : ℕ). word (now (a .words)) s NEXT) (c .before .before .before .before .before .slot-of .ensures)) (c .before .before .before .if3 .left) (c .before .get-word2 .ensures ∙ ap (λ (s : ℕ). word (now (a .words)) s PARENT) (c .before .before .slot-of2 .ensures)) (c .if4 .taken))) (omega arith)
+    ran-edge W.Ending W.Over (at .id) (set (at .list) (at .count) (at .id + 32768)) (at .count + 1) over-ending (omega arith)
+    (gone-edge (End (at .id)) (at .list) (at .count) (at .inv) h refl (c .before .before .before .before .before .before .before .before .found-within .ensures) (c .before .before .before .before .before .before .before .if1 .taken) refl
+    (after-top (now (a .words)) (a .used) (a .root) (at .id) (c .before .before .before .before .before .before .before .before .found-within .ensures) (c .before .before .before .before .before .before .before .if1 .taken) (c .before .before .before .before .before .before .if2 .left) (c .before .before .before .before .get-word .ensures ∙ ap (λ (s : ℕ). word (now (a .words)) s NEXT) (c .before .before .before .before .before .slot-of .ensures)) (c .before .before .before .if3 .left) (c .before .get-word2 .ensures ∙ ap (λ (s : ℕ). word (now (a .words)) s PARENT) (c .before .before .slot-of2 .ensures)) (c .if4 .taken)))
 
 loop-less : tie.Need-loop-less Inv-loop μ-loop
 loop-less c = search needs
@@ -119,9 +125,8 @@ same-length-4 c = search needs
 
 returns-4 : tie.Need-returns-4 Inv-loop μ-loop
 returns-4 c =
-    let a = c .before .before .before .before .before .before .args in
     let at = c .before .before .before .loop in
-    gone-lost (End (at .id)) (at .list) (at .count) (at .inv) (c .before .before .loop-test .taken) refl (c .before .found-within .ensures) (c .if1 .left)
+    ran-lost W.Ending lost-ending (End (at .id)) (at .list) (at .count) (at .inv) (c .before .before .loop-test .taken) refl (c .before .found-within .ensures) (c .if1 .left)
 
 same-length-5 : tie.Need-same-length-5 Inv-loop μ-loop
 same-length-5 c = search needs
@@ -129,9 +134,7 @@ same-length-5 c = search needs
 returns-5 : tie.Need-returns-5 Inv-loop μ-loop
 returns-5 c =
     let at = c .before .loop in
-    let p = c .before .before .before .before .pre .2 in
-    let q = c .loop-test .left in
-    gone-moves (at .inv) (omega arith)
+    ran-full W.Ending W.Ending (at .id) (at .list) (at .count) (c .loop-test .left) (c .before .before .before .before .pre .2) (at .inv)
 
 pub write-ends-spec : {M : Type 1} → statement M
 write-ends-spec =

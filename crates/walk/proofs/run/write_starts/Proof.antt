@@ -1,15 +1,17 @@
 -- The contract of `walk::run::write_starts`.
-use mathlib.Core.Path.{_≡_, _∙_, sym, ap, refl}
+use mathlib.Core.Path.{_∙_, sym, ap, refl}
 use Prim.Native.Nat.{ℕ, _-_, _+_, _<_}
 use native.Mathlib.Omega.{arith}
-use lib.ListN.{length, set}
+use lib.ListN.{set}
 use borrow.Author.Needs.{needs}
 use denote.Ref.{now}
-use Rattle.link.specs.Words.{PARENT, NEXT, FIRST, word}
+use Rattle.link.specs.Words.{FIRST, word}
 use Rattle.link.specs.FoundLaws.{found-is}
-use Rattle.walk.specs.Runs.{Gone, Going, gone-edge, gone-lost, gone-moves, gone-none, after-leaf, after-child}
-use Rattle.walk.specs.declared.edge.Edge.the-variants.{Start, End}
+use Rattle.walk.specs.Runs.{Gone}
+use Rattle.walk.specs.RunLaws.{gone-edge, ran-edge, ran-lost, ran-full, gone-none, ending-starting, lost-starting, after-leaf, after-child}
+use Rattle.walk.specs.declared.edge.Edge.the-variants.{Start}
 use Rattle.walk.specs.declared.edge.Step.the-variants as S
+use Rattle.walk.specs.declared.run.Way.the-variants as W
 use Rattle.walk.proofs.run.write_starts.Statement.{statement}
 use Rattle.walk.proofs.run.write_starts.Tie as tie
 
@@ -59,8 +61,9 @@ returns c =
     let at = c .before .before .before .before .before .before .loop in
     let h : at .count < a .budget = c .before .before .before .before .before .loop-test .taken in
     let b = at .inv .from in
-    gone-moves (gone-edge (Start (at .id)) (at .list) (at .count) (at .inv) h refl (c .before .before .before .before .found-within .ensures) (c .before .before .before .if1 .taken) refl
-    (after-leaf (now (a .words)) (a .used) (a .root) (at .id) (c .before .before .before .before .found-within .ensures) (c .before .before .before .if1 .taken) (c .before .get-word .ensures ∙ ap (λ (s : ℕ). word (now (a .words)) s FIRST) (c .before .before .slot-of .ensures)) (c .if2 .taken))) (omega arith)
+    ran-edge W.Starting W.Ending (at .id) (set (at .list) (at .count) (at .id)) (at .count + 1) ending-starting (omega arith)
+    (gone-edge (Start (at .id)) (at .list) (at .count) (at .inv) h refl (c .before .before .before .before .found-within .ensures) (c .before .before .before .if1 .taken) refl
+    (after-leaf (now (a .words)) (a .used) (a .root) (at .id) (c .before .before .before .before .found-within .ensures) (c .before .before .before .if1 .taken) (c .before .get-word .ensures ∙ ap (λ (s : ℕ). word (now (a .words)) s FIRST) (c .before .before .slot-of .ensures)) (c .if2 .taken)))
 
 loop-less : tie.Need-loop-less Inv-loop μ-loop
 loop-less c = search needs
@@ -78,9 +81,8 @@ same-length-2 c = search needs
 
 returns-2 : tie.Need-returns-2 Inv-loop μ-loop
 returns-2 c =
-    let a = c .before .before .before .before .before .before .args in
     let at = c .before .before .before .loop in
-    gone-lost (Start (at .id)) (at .list) (at .count) (at .inv) (c .before .before .loop-test .taken) refl (c .before .found-within .ensures) (c .if1 .left)
+    ran-lost W.Starting lost-starting (Start (at .id)) (at .list) (at .count) (at .inv) (c .before .before .loop-test .taken) refl (c .before .found-within .ensures) (c .if1 .left)
 
 same-length-3 : tie.Need-same-length-3 Inv-loop μ-loop
 same-length-3 c = search needs
@@ -88,9 +90,7 @@ same-length-3 c = search needs
 returns-3 : tie.Need-returns-3 Inv-loop μ-loop
 returns-3 c =
     let at = c .before .loop in
-    let p = c .before .before .before .before .pre .2 in
-    let q = c .loop-test .left in
-    gone-moves (at .inv) (omega arith)
+    ran-full W.Starting W.Starting (at .id) (at .list) (at .count) (c .loop-test .left) (c .before .before .before .before .pre .2) (at .inv)
 
 pub write-starts-spec : {M : Type 1} → statement M
 write-starts-spec =
