@@ -1,0 +1,74 @@
+-- Zeroing the first words of the scratch, twice and by less; and what a look leaves known.
+use mathlib.Core.Path.{_≡_, refl, sym, ap, _∙_, subst}
+use mathlib.Core.Bool.{Bool, true, false, false≢true}
+use mathlib.Core.List.{List, _++_, append-assoc}
+use Prim.Native.Nat.{ℕ, _+_, _-_, _*_, _≤_}
+use native.Mathlib.Omega.{arith}
+use lib.ListN.{length, replicate, drop, length-replicate, replicate-append-replicate}
+use lib.Seq.{drop-at, length-front, length-take-le}
+use Rattle.link.specs.declared.header.Header.{Header}
+use Rattle.examine.specs.Scratch.{zeroed}
+use Rattle.examine.specs.Examination.{examined}
+use Rattle.examine.specs.declared.chain.Verdict.{Verdict}
+use Rattle.command.specs.Known.{Knows, Cleaned, Looked}
+use Rattle.command.specs.declared.known.Known.{Known}
+
+pub zeroed-length : (n : ℕ) (s : List ℕ) → n ≤ length s → length (zeroed n s) ≡ length s
+unfolding zeroed
+zeroed-length n s h = length-front s (replicate n 0) n (length-replicate n 0 ∙ sym (length-take-le n s h))
+
+pub zeroed-again : (n : ℕ) (s : List ℕ) → zeroed n (zeroed n s) ≡ zeroed n s
+unfolding zeroed
+zeroed-again n s = ap (λ (t : List ℕ). replicate n 0 ++ t) (drop-at (replicate n 0) (drop n s) n (length-replicate n 0))
+
+-- where more are zero already
+pub zeroed-less : (n c : ℕ) (s : List ℕ) → n ≤ c → zeroed n (zeroed c s) ≡ zeroed c s
+unfolding zeroed
+zeroed-less n c s h =
+    subst (λ (z : List ℕ). replicate n 0 ++ drop n z ≡ z) (sym parts)
+    (ap (λ (z : List ℕ). replicate n 0 ++ z) (drop-at (replicate n 0) t n (length-replicate n 0)))
+  where
+    t : List ℕ
+    t = replicate (c - n) 0 ++ drop c s
+
+    whole : n + (c - n) ≡ c
+    whole = omega arith
+
+    parts : replicate c 0 ++ drop c s ≡ replicate n 0 ++ t
+    parts =
+        ap (λ (z : List ℕ). z ++ drop c s) (sym (replicate-append-replicate n (c - n) 0 ∙ ap (λ (z : ℕ). replicate z 0) whole))
+        ∙ append-assoc (replicate n 0) (replicate (c - n) 0) (drop c s)
+
+pub cleaned-more : (n : ℕ) (s : List ℕ) {s′ : List ℕ} → n ≤ length s → s′ ≡ zeroed n s → Cleaned n s s′ n
+cleaned-more n s room e = record { zero = e; zeros = rw e (zeroed-again n s); fits = rw (e, zeroed-length n s room) room }
+
+pub cleaned-less : (n c : ℕ) (s : List ℕ) → n ≤ c → zeroed c s ≡ s → c ≤ length s → Cleaned n s s c
+cleaned-less n c s h z room = record {
+  zero = sym (ap (zeroed n) (sym z) ∙ zeroed-less n c s h ∙ z);
+  zeros = z;
+  fits = room;
+}
+
+abbrev pub known : Bool → Verdict → ℕ → Known
+known looked verdict clean = record { looked = looked; verdict = verdict; clean = clean }
+
+-- known before: only the scratch is looked after
+pub looked-known : (m : List ℕ) (h : Header) (s : List ℕ) {s′ : List ℕ} {k : Known} {clean : ℕ} → Knows m h s k → k .looked ≡ true
+    → Cleaned (2 * h .used) s s′ clean → Looked m h s s′ (known true (k .verdict) clean)
+looked-known m h s K e w = record {
+  zero = w .zero;
+  looked = refl;
+  knows = record { verdict = λ _. K .verdict e; zeros = w .zeros; fits = w .fits };
+}
+
+-- examined now
+pub looked-now : (m : List ℕ) (h : Header) (s : List ℕ) {s′ : List ℕ} {v : Verdict} → 2 * h .used ≤ length s
+    → s′ ≡ zeroed (2 * h .used) s → v ≡ examined m h → Looked m h s s′ (known true v (2 * h .used))
+looked-now m h s room e f =
+    let w = cleaned-more (2 * h .used) s room e in
+    record { zero = e; looked = refl; knows = record { verdict = λ _. f; zeros = w .zeros; fits = w .fits } }
+
+-- nothing is known at first
+pub knows-nothing : (m : List ℕ) (h : Header) (s : List ℕ) {k : Known} → k .looked ≡ false → k .clean ≡ 0 → Knows m h s k
+unfolding zeroed
+knows-nothing m h s e f = record { verdict = λ q. absurd (false≢true (sym e ∙ q)); zeros = rw f refl; fits = rw f (omega arith) }

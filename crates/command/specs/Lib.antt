@@ -1,0 +1,6 @@
+pub mod Codes
+pub mod Calls
+pub mod CallLaws
+pub mod Commands
+pub mod Known
+pub mod KnownLaws
