@@ -7,7 +7,11 @@ use lib.ListN.{length}
 use Rattle.link.specs.declared.header.Header.{Header}
 use Rattle.examine.specs.Scratch.{zeroed}
 use Rattle.examine.specs.Examination.{examined}
+use Rattle.sound.specs.Guard.{scratchAfter, guardNo}
+use Rattle.command.specs.Commands.{Outcome}
 use Rattle.command.specs.declared.known.Known.{Known}
+use Rattle.command.specs.declared.command.Gate.{Gate}
+use Rattle.command.specs.declared.command.Done.{Done}
 
 -- Where it has looked, the verdict is the memory's; and the first `clean` scratch words are zero.
 pub record Knows (m : List ℕ) (h : Header) (scratch : List ℕ) (k : Known) : Type 0 where
@@ -26,3 +30,14 @@ pub record Looked (m : List ℕ) (h : Header) (before after : List ℕ) (k : Kno
   pub zero : after ≡ zeroed (2 * h .used) before
   pub looked : k .looked ≡ true
   pub knows : Knows m h after k
+
+-- After the guard: scratch and number as the guard leaves them, and what is known.
+pub record Gated (m : List ℕ) (h : Header) (before after : List ℕ) (g : Gate) : Type 0 where
+  pub scratch : after ≡ scratchAfter m h before
+  pub number : g .number ≡ guardNo m h (length before)
+  pub knows : Knows m h after (g .known)
+
+-- After a command: the outcome, and what is known of the memory with the header answered.
+pub record Did (outcome : Outcome) (m s : List ℕ) (d : Done) : Type 0 where
+  pub same : (m, s, d .answer) ≡ outcome
+  pub knows : Knows m (d .answer .header) s (d .known)

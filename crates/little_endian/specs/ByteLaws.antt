@@ -83,19 +83,26 @@ four-stores bytes at x =
     let three : at + 3 ≡ suc (suc (suc at)) = omega arith in
     rw (third, fourth, one, two, three)
 
--- and the sums of two and of four.
+-- and the sums of two, of three and of four.
 pub two-read : (bytes : List ℕ) (at : ℕ) → at + 2 ≤ length bytes → numberAt 2 bytes at ≡ getD bytes at 0 + 256 * getD bytes (at + 1) 0
 two-read bytes at h =
     number-step 1 bytes at (omega arith)
     ∙ ap (λ (n : ℕ). getD bytes at 0 + 256 * n) (number-step 0 bytes (at + 1) (omega arith) ∙ ap (λ (n : ℕ). getD bytes (at + 1) 0 + 256 * n) (number-none bytes (at + 1 + 1)))
     ∙ omega arith
 
+pub three-read : (bytes : List ℕ) (at : ℕ) → at + 3 ≤ length bytes
+    → numberAt 3 bytes at ≡ getD bytes at 0 + 256 * getD bytes (at + 1) 0 + 65536 * getD bytes (at + 2) 0
+three-read bytes at h =
+    let a = number-step 2 bytes at (omega arith) in
+    let b = two-read bytes (at + 1) (omega arith) in
+    let e : at + 1 + 1 ≡ at + 2 = omega arith in
+    rw (a, b, e) (omega arith)
+
 pub four-read : (bytes : List ℕ) (at : ℕ) → at + 4 ≤ length bytes
     → numberAt 4 bytes at ≡ getD bytes at 0 + 256 * getD bytes (at + 1) 0 + 65536 * getD bytes (at + 2) 0 + 16777216 * getD bytes (at + 3) 0
 four-read bytes at h =
     let a = number-step 3 bytes at (omega arith) in
-    let b = number-step 2 bytes (at + 1) (omega arith) in
-    let c = two-read bytes (at + 2) (omega arith) in
+    let b = three-read bytes (at + 1) (omega arith) in
     let e : at + 1 + 1 ≡ at + 2 = omega arith in
-    let f : at + 2 + 1 ≡ at + 3 = omega arith in
-    rw (a, b, e, c, f) (omega arith)
+    let f : at + 1 + 2 ≡ at + 3 = omega arith in
+    rw (a, b, e, f) (omega arith)

@@ -1,0 +1,5 @@
+pub mod Trace
+pub mod Batch
+pub mod Performing
+pub mod PerformLaws
+pub mod BatchLaws

@@ -1,0 +1,63 @@
+-- The contract of `command::command::judge`.
+use mathlib.Core.Path.{_∙_, ap}
+use borrow.Author.Needs.{needs}
+use denote.Ref.{now}
+use Rattle.sound.specs.Guard.{soundResult}
+use Rattle.sound.specs.GuardLaws.{validated-fits, validated-unfit}
+use Rattle.command.specs.StepLaws.{fit-look, did-kept}
+use Rattle.command.specs.Commands.{called}
+use Rattle.command.proofs.command.judge.Statement.{statement}
+use Rattle.command.proofs.command.judge.Tie as tie
+
+fit-requires : tie.Need-fit-requires
+fit-requires c κs = search needs
+
+look-requires : tie.Need-look-requires
+look-requires c κs = let a = c .before .before .before .before .before .before .args in fit-look (now (a .words)) (a .h) (now (a .scratch)) (c .before .before .fit .ensures) (c .before .if1 .taken) (c .before .before .before .before .before .before .pre)
+
+sound-result-requires : tie.Need-sound-result-requires
+sound-result-requires c κs = search needs
+
+keep-requires : tie.Need-keep-requires
+keep-requires c κs = search needs
+
+same-length : tie.Need-same-length
+same-length c = search needs
+
+returns : tie.Need-returns
+unfolding called
+returns c =
+    let a = c .before .before .before .before .before .before .before .before .before .before .before .args in
+    let L = c .before .before .before .before .look .ensures in
+    did-kept (now (a .words)) (a .h) (now (a .scratch))
+    (validated-fits (now (a .words)) (a .h) (now (a .scratch)) (c .before .before .before .before .before .before .before .fit .ensures) (c .before .before .before .before .before .before .if1 .taken) (L .zero)
+    (c .before .sound-result .ensures ∙ ap soundResult (L .knows .verdict (L .looked))))
+    (L .knows) (c .keep .ensures)
+
+refuse-requires : tie.Need-refuse-requires
+refuse-requires c κs = search needs
+
+same-length-2 : tie.Need-same-length-2
+same-length-2 c = search needs
+
+returns-2 : tie.Need-returns-2
+unfolding called
+returns-2 c =
+    let a = c .before .before .before .before .before .before .args in
+    did-kept (now (a .words)) (a .h) (now (a .scratch))
+    (validated-unfit (now (a .words)) (a .h) (now (a .scratch)) (c .before .before .fit .ensures) (c .before .if1 .left))
+    (c .before .before .before .before .before .before .pre) (c .refuse .ensures)
+
+pub judge-spec : {M : Type 1} → statement M
+judge-spec =
+    tie.close
+    (tie.spec
+    fit-requires
+    look-requires
+    sound-result-requires
+    keep-requires
+    same-length
+    returns
+    refuse-requires
+    same-length-2
+    returns-2)
