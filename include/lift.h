@@ -89,6 +89,73 @@ uint32_t lift_live_count(const uint32_t *words, size_t words_len, const uint32_t
 uint32_t lift_census(const uint32_t *words, size_t words_len, const uint32_t header[3], uint32_t *scratch, size_t scratch_len,
                      uint32_t counts[4]);
 
+/* The nodes from a node down, the node with them: FRAME, SCRATCH, INVALID, REMOVED. */
+uint32_t lift_descendant_count(const uint32_t *words, size_t words_len, const uint32_t header[3], uint32_t *scratch,
+                               size_t scratch_len, uint32_t id, uint32_t *result);
+
+/* Lists: FRAME, SCRATCH, INVALID, REMOVED, ROOM. The result is the length; the list is written whole, places past it unchanged. Where
+ * refused, ROOM included, the list is untouched. All but children begin with the node, leaves where it is one. Descendants are in
+ * preorder, breadth first level by level; ancestors, preceding siblings and predecessors (previous sibling, else parent) go away from
+ * the node. */
+uint32_t lift_descendants(const uint32_t *words, size_t words_len, const uint32_t header[3], uint32_t *scratch, size_t scratch_len,
+                          uint32_t id, uint32_t *list, size_t list_len, uint32_t *result);
+uint32_t lift_breadth_first(const uint32_t *words, size_t words_len, const uint32_t header[3], uint32_t *scratch,
+                            size_t scratch_len, uint32_t id, uint32_t *list, size_t list_len, uint32_t *result);
+uint32_t lift_leaves(const uint32_t *words, size_t words_len, const uint32_t header[3], uint32_t *scratch, size_t scratch_len,
+                     uint32_t id, uint32_t *list, size_t list_len, uint32_t *result);
+uint32_t lift_ancestors(const uint32_t *words, size_t words_len, const uint32_t header[3], uint32_t *scratch, size_t scratch_len,
+                        uint32_t id, uint32_t *list, size_t list_len, uint32_t *result);
+uint32_t lift_children(const uint32_t *words, size_t words_len, const uint32_t header[3], uint32_t *scratch, size_t scratch_len,
+                       uint32_t id, uint32_t *list, size_t list_len, uint32_t *result);
+uint32_t lift_following_siblings(const uint32_t *words, size_t words_len, const uint32_t header[3], uint32_t *scratch,
+                                 size_t scratch_len, uint32_t id, uint32_t *list, size_t list_len, uint32_t *result);
+uint32_t lift_preceding_siblings(const uint32_t *words, size_t words_len, const uint32_t header[3], uint32_t *scratch,
+                                 size_t scratch_len, uint32_t id, uint32_t *list, size_t list_len, uint32_t *result);
+uint32_t lift_predecessors(const uint32_t *words, size_t words_len, const uint32_t header[3], uint32_t *scratch, size_t scratch_len,
+                           uint32_t id, uint32_t *list, size_t list_len, uint32_t *result);
+
+/* Two subtrees, of one memory lent twice or of two: the result is 1 where shape and numbers agree, else 0. FRAME, SCRATCH, INVALID of
+ * the first, then of the second, then REMOVED of either. One scratch serves both; where the first is refused the second is not looked
+ * at. */
+uint32_t lift_subtree_eq(const uint32_t *words, size_t words_len, const uint32_t header[3], uint32_t id,
+                         const uint32_t *other_words, size_t other_words_len, const uint32_t other_header[3], uint32_t other_id,
+                         uint32_t *scratch, size_t scratch_len, uint32_t *result);
+
+/* A stepped walk, on any memory, without scratch. `state` is the root, the next edge, the mark. An edge is Start, the identifier, or
+ * End, that plus 32,768; it is 0 where its identifier is not found, and after over or broken. A mark above 2 counts as broken. A
+ * refused call leaves `state` as it was. Memory may change between two calls: each looks its edges up anew. */
+enum lift_walk_mark {
+    LIFT_MORE = 0,   /* it can be continued */
+    LIFT_OVER = 1,   /* no edge follows */
+    LIFT_BROKEN = 2  /* the next edge's identifier is not found */
+};
+
+/* Before Start of the root, with the mark more: FRAME, REMOVED. Writes `state` where DONE; it has no result. */
+uint32_t lift_walk_start(const uint32_t *words, size_t words_len, const uint32_t header[3], uint32_t root, uint32_t state[3]);
+
+/* At most `budget` edges, to the first places of the list: FRAME, ROOM for a list under `budget` places. The result is how many were
+ * written; places past them, and the whole list where refused, are unchanged. Writes `state` where DONE; the root in it stays. */
+uint32_t lift_walk(const uint32_t *words, size_t words_len, const uint32_t header[3], uint32_t state[3], uint32_t budget,
+                   uint32_t *list, size_t list_len, uint32_t *result);
+
+/* The image: FRAME, SCRATCH, INVALID, ROOM for bytes under 11 + 28 x used. The result is the bytes written; those past them, and all
+ * of them where refused, are unchanged. */
+uint32_t lift_save(const uint32_t *words, size_t words_len, const uint32_t header[3], uint32_t *scratch, size_t scratch_len,
+                   uint8_t *bytes, size_t bytes_len, uint32_t *result);
+
+/* Memory from an image: LENGTH (under 11), MARK, VERSION, LENGTH (whole), ROOM for words of fewer slots than the image's, SCRATCH,
+ * INVALID. The old header is not looked at, and every load writes it: zeros where refused. A load refused up to SCRATCH leaves words
+ * and scratch; INVALID leaves the first 7 x used words zero, used as the image says. Words past these are never written. The result
+ * is 0. */
+uint32_t lift_load(const uint8_t *bytes, size_t bytes_len, uint32_t *words, size_t words_len, uint32_t header[3], uint32_t *scratch,
+                   size_t scratch_len, uint32_t *result);
+
+/* The commands of a trace, twelve bytes each, one after the other, each as its own call would: two words for each answer, number and
+ * result. ROOM, before any command, for answers under 2 x (trace_len / 12, rounded up) words; else DONE, and the result is the number
+ * of answers, one (10, 0) for a cut-off end among them. Places past them are unchanged. */
+uint32_t lift_batch(uint32_t *words, size_t words_len, uint32_t header[3], uint32_t *scratch, size_t scratch_len,
+                    const uint8_t *trace, size_t trace_len, uint32_t *answers, size_t answers_len, uint32_t *result);
+
 #ifdef __cplusplus
 }
 #endif

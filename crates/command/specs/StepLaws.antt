@@ -4,6 +4,7 @@ use mathlib.Core.Path.{_≡_, refl, sym, ap, _∙_}
 use mathlib.Core.Bool.{true, false, false≢true}
 use mathlib.Core.List.{List}
 use Prim.Native.Nat.{ℕ, _*_, _≤_}
+use native.Mathlib.Omega.{arith}
 use lib.ListN.{length}
 use Rattle.link.specs.Words.{width, capacityOf}
 use Rattle.link.specs.declared.header.Header.{Header}
@@ -11,6 +12,7 @@ use Rattle.rules.specs.Answers.{DONE, COMMAND, answer}
 use Rattle.rules.specs.Sound.{Ready}
 use Rattle.rules.specs.declared.answer.Reply.{Reply}
 use Rattle.rules.specs.declared.answer.Answer.{Answer}
+use Rattle.examine.specs.Scratch.{zeroed}
 use Rattle.examine.specs.Verdicts.{readyB}
 use Rattle.examine.specs.Examination.{examined}
 use Rattle.examine.specs.declared.chain.Verdict.{Verdict}
@@ -18,7 +20,8 @@ use Rattle.exact.specs.Exact.{examined-ready}
 use Rattle.sound.specs.Guard.{fitNo, readyNo, guarded}
 use Rattle.sound.specs.GuardLaws.{Fits, fit-done, capacity-fits, scratch-fits, scratch-unfit, guard-fits, guard-unfit, guard-ready}
 use Rattle.sound.specs.GuardedLaws.{guarded-done, guarded-refused, passed}
-use Rattle.arena.specs.Reads.{setNumber}
+use Rattle.arena.specs.Reads.{setNumber, cleared}
+use Rattle.keeps.specs.Clear.{clear-ready}
 use Rattle.command.specs.Codes.{acceptable}
 use Rattle.command.specs.Calls.{callOf}
 use Rattle.command.specs.Commands.{Outcome, changed, keeping, called, commanded}
@@ -42,6 +45,15 @@ ready-verdict m h R = told (examined m h) (examined-ready m h .1 R)
     told Is.Unsound e = absurd (false≢true e)
     told Is.Spent e = absurd (false≢true e)
     told Is.Ready e = refl
+
+-- nothing in use
+pub knows-fresh : (m s : List ℕ) {k : Known} → (k .looked ≡ true) × (k .verdict ≡ Is.Ready) × (k .clean ≡ 0) → Knows m cleared s k
+unfolding zeroed
+knows-fresh m s (l, v, z) = record {
+  verdict = λ _. v ∙ sym (ready-verdict m cleared (clear-ready m));
+  zeros = rw z refl;
+  fits = rw z (omega arith);
+}
 
 module _ (m : List ℕ) (h : Header) (s : List ℕ) {no : ℕ} (e : no ≡ fitNo (length m) (h .used) (length s)) where
   fits : no ≡ DONE → Fits (length m) (h .used) (length s)

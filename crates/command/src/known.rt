@@ -8,6 +8,7 @@ ghost use Prim.Native.Nat.{_*_, _≤_};
 ghost use lib.ListN.{length};
 ghost use Rattle.link.specs.Words.{width};
 ghost use Rattle.examine.specs.Scratch.{zeroed};
+ghost use Rattle.examine.specs.declared.chain.Verdict.the-variants as Is;
 ghost use Rattle.command.specs.Known.{Knows, Cleaned, Looked};
 
 pub struct Known {
@@ -23,6 +24,17 @@ pub fn nothing() -> Known
     Known {
         looked: false,
         verdict: Verdict::Unsound,
+        clean: 0,
+    }
+}
+
+// An arena that nothing was put into is ready, whatever its words: it need not be examined.
+pub fn fresh() -> Known
+    ensures { λ r. ⌜ (r .looked ≡ true) × (r .verdict ≡ Is.Ready) × (r .clean ≡ 0) ⌝ }
+{
+    Known {
+        looked: true,
+        verdict: Verdict::Ready,
         clean: 0,
     }
 }

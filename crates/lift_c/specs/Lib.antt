@@ -1,2 +1,4 @@
 pub mod Face
 pub mod FaceLaws
+pub mod State
+pub mod StateLaws

@@ -7,7 +7,7 @@ use Prim.Native.Nat.{ℕ, zero, suc, _+_, _-_, _*_, _/_, _%_, _<_, _≤_}
 use native.Mathlib.Numerals.{sub-one}
 use native.Mathlib.Omega.{arith}
 use lib.Dec.{ltb}
-use lib.ListN.{length, getD, set, length-append}
+use lib.ListN.{List·getD-append, length, getD, set, length-append}
 use lib.Seq.{sets, set-comm, length-sets}
 use Rattle.little_endian.specs.RunLaws.{sets-append}
 use Rattle.lines.specs.Decimal.{digitsOf, placesOf, textOf}
@@ -177,3 +177,24 @@ module _ (n : ℕ) (list out₀ out : List ℕ) (i at : ℕ) (L : Lining n list 
       let o : out ≡ sets out₀ 0 (linesOf n list 0) = sym (ap (sets out at) s) ∙ L .rest in
       let a : at ≡ length (linesOf n list 0) = (let t = ap length s in let f = L .end in omega arith) in
       rw (o, a) refl
+
+-- How long the lines are, and that they depend on the answers alone.
+pub lines-bound : (n : ℕ) (list : List ℕ) (i : ℕ) → length (linesOf n list i) ≤ 22 * n
+unfolding linesOf
+lines-bound zero list i = omega arith
+lines-bound (suc n) list i =
+    let x : List ℕ = lineOf (getD list (2 * i) 0) (getD list (2 * i + 1) 0) in
+    let a = length-append x (linesOf n list (i + 1)) in
+    let b = line-bound (getD list (2 * i) 0) (getD list (2 * i + 1) 0) in
+    let c = lines-bound n list (i + 1) in
+    omega arith
+
+pub lines-prefix : (n : ℕ) (xs ys : List ℕ) (i : ℕ) → 2 * (i + n) ≤ length xs → linesOf n (xs ++ ys) i ≡ linesOf n xs i
+unfolding linesOf
+lines-prefix zero xs ys i h = refl
+lines-prefix (suc n) xs ys i h =
+    let a = List·getD-append xs ys 0 (2 * i) (omega arith) in
+    let b = List·getD-append xs ys 0 (2 * i + 1) (omega arith) in
+    ap (λ (x : ℕ). lineOf x (getD (xs ++ ys) (2 * i + 1) 0) ++ linesOf n (xs ++ ys) (i + 1)) a
+    ∙ ap (λ (y : ℕ). lineOf (getD xs (2 * i) 0) y ++ linesOf n (xs ++ ys) (i + 1)) b
+    ∙ ap (λ (z : List ℕ). lineOf (getD xs (2 * i) 0) (getD xs (2 * i + 1) 0) ++ z) (lines-prefix n xs ys (i + 1) (omega arith))

@@ -14,12 +14,13 @@ use Rattle.link.specs.WordLaws.{link-some}
 use Rattle.link.specs.Found.{foundB}
 use Rattle.link.specs.FoundLaws.{found-is}
 use Rattle.walk.specs.Edges.{edgeId, edgeCode, nextTraverse, nextOfNext}
-use Rattle.walk.specs.Runs.{yieldFrom, Gone, stepAt, Ran}
+use Rattle.walk.specs.Runs.{yieldFrom, Gone, stepAt, reachedAt, Ran}
 use Rattle.walk.specs.WalkLaws.{yield-out, yield-over, yield-broken, turn-edge, turn-lost}
 use Rattle.walk.specs.declared.edge.Edge.{Edge}
 use Rattle.walk.specs.declared.edge.Edge.the-variants.{Start, End}
 use Rattle.walk.specs.declared.edge.Step.{Step}
 use Rattle.walk.specs.declared.edge.Step.the-variants as S
+use Rattle.walk.specs.declared.run.Reached.{Reached}
 use Rattle.walk.specs.declared.run.Way.{Way}
 use Rattle.walk.specs.declared.run.Way.the-variants as W
 
@@ -91,6 +92,13 @@ module _ {m : List ℕ} {used root budget : ℕ} {next₀ : Step} {list₀ : Lis
   pub ran-full : (out way : Way) (id : ℕ) (list : List ℕ) (count : ℕ) → budget ≤ count → count₀ < budget
       → Gone m used root budget next₀ list₀ count₀ (stepAt way id) list count → Ran m used root budget next₀ list₀ count₀ out way id list count
   ran-full out way id list count h k g = record { gone = g; moves = inl (omega arith); full = λ _. h }
+
+-- The end of a run as it is handed back.
+pub ran-reached : (m : List ℕ) (used root budget : ℕ) (next : Step) (list : List ℕ) (count₀ : ℕ) (out : Way) (list′ : List ℕ)
+    {count id : ℕ} {way : Way} {r : Reached} → r ≡ reachedAt count id way → Ran m used root budget next list count₀ out way id list′ count
+    → Ran m used root budget next list count₀ out (r .way) (r .id) list′ (r .count)
+ran-reached m used root budget next list count₀ out list′ e x =
+    subst (λ (q : Reached). Ran m used root budget next list count₀ out (q .way) (q .id) list′ (q .count)) (sym e) x
 
 pub gone-none : (m : List ℕ) (used root budget : ℕ) (next : Step) (list : List ℕ) (count : ℕ) → count ≤ budget → Gone m used root budget next list count next list count
 gone-none m used root budget next list count h = record { from = omega arith; upto = h; places = refl; rest = refl }

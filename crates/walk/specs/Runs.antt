@@ -10,6 +10,7 @@ use Rattle.walk.specs.Walks.{traversal, codes}
 use Rattle.walk.specs.declared.edge.Edge.the-variants.{Start, End}
 use Rattle.walk.specs.declared.edge.Step.{Step}
 use Rattle.walk.specs.declared.edge.Step.the-variants as S
+use Rattle.walk.specs.declared.run.Reached.{Reached}
 use Rattle.walk.specs.declared.run.Way.{Way}
 use Rattle.walk.specs.declared.run.Way.the-variants as W
 
@@ -32,6 +33,9 @@ stepAt W.Starting id = S.Edge (Start id)
 stepAt W.Ending id = S.Edge (End id)
 stepAt W.Over id = S.Over
 stepAt W.Lost id = S.Broken
+
+abbrev pub reachedAt : ℕ → ℕ → Way → Reached
+reachedAt count id way = record { count = count; id = id; way = way }
 
 -- A run from `next`: it wrote an edge or lost one, and it stands at `out` only when the budget is used.
 pub record Ran (m : List ℕ) (used root budget : ℕ) (next : Step) (list : List ℕ) (count : ℕ) (out way : Way) (id : ℕ) (list′ : List ℕ) (count′ : ℕ) : Type 0 where

@@ -9,7 +9,7 @@ ghost use mathlib.Core.Path.{_≡_};
 ghost use Prim.Native.Nat.{_-_, _*_, _<_, _≤_};
 ghost use lib.ListN.{length};
 ghost use Rattle.link.specs.Words.{width};
-ghost use Rattle.walk.specs.Runs.{yieldFrom, stepAt, Ran};
+ghost use Rattle.walk.specs.Runs.{yieldFrom, stepAt, reachedAt, Ran};
 ghost use Rattle.walk.specs.declared.edge.Edge.the-variants.{Start, End};
 ghost use Rattle.walk.specs.declared.edge.Step.the-variants as S;
 ghost use Rattle.walk.specs.declared.run.Way.the-variants.{Starting, Ending};
@@ -41,6 +41,12 @@ pub fn step_at(way: Way, id: u32) -> Step
     }
 }
 
+fn come_to(count: u32, id: u32, way: Way) -> Reached
+    ensures { λ r. ⌜ r ≡ reachedAt count id way ⌝ }
+{
+    Reached { count, id, way }
+}
+
 // From Start of a node down to the first without children, as far as the budget goes.
 fn write_starts(
     words: &[u32],
@@ -63,17 +69,14 @@ fn write_starts(
             count += 1;
             let child = get_word(words, slot_of(id), Slot::FIRST);
             if child == 0 {
-                let way = Way::Ending;
-                return Reached { count, id, way };
+                return come_to(count, id, Way::Ending);
             }
             id = child;
         } else {
-            let way = Way::Lost;
-            return Reached { count, id, way };
+            return come_to(count, id, Way::Lost);
         }
     }
-    let way = Way::Starting;
-    Reached { count, id, way }
+    come_to(count, id, Way::Starting)
 }
 
 // From End of a node up to the first with a next sibling, as far as the budget goes; nothing follows End of the root.
@@ -97,31 +100,22 @@ fn write_ends(
             list[at] = id + 32768;
             count += 1;
             if id == root {
-                let way = Way::Over;
-                return Reached { count, id, way };
+                return come_to(count, id, Way::Over);
             }
             let sibling = get_word(words, slot_of(id), Slot::NEXT);
             if sibling != 0 {
-                let way = Way::Starting;
-                return Reached {
-                    count,
-                    id: sibling,
-                    way,
-                };
+                return come_to(count, sibling, Way::Starting);
             }
             let parent = get_word(words, slot_of(id), Slot::PARENT);
             if parent == 0 {
-                let way = Way::Over;
-                return Reached { count, id, way };
+                return come_to(count, id, Way::Over);
             }
             id = parent;
         } else {
-            let way = Way::Lost;
-            return Reached { count, id, way };
+            return come_to(count, id, Way::Lost);
         }
     }
-    let way = Way::Ending;
-    Reached { count, id, way }
+    come_to(count, id, Way::Ending)
 }
 
 // From Start of a node down, and up from there.
@@ -194,8 +188,7 @@ fn write_rounds(
             }
         }
     }
-    let way = Way::Starting;
-    Reached { count, id, way }
+    come_to(count, id, Way::Starting)
 }
 
 // From End of a node, up and then in rounds.

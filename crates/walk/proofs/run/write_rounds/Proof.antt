@@ -1,14 +1,15 @@
 -- The contract of `walk::run::write_rounds`.
-use mathlib.Core.Path.{_∙_, sym}
+use mathlib.Core.Path.{ap, _∙_, sym}
 use mathlib.Core.Logic.{inl, inr}
 use Prim.Native.Nat.{_-_}
 use native.Mathlib.Omega.{arith}
 use borrow.Author.Needs.{needs}
 use denote.Ref.{now}
-use Rattle.walk.specs.Runs.{Gone}
+use Rattle.walk.specs.Runs.{Gone, stepAt}
 use Rattle.walk.specs.RunLaws.{gone-none, gone-then, gone-full, ran-more, ran-stops, starting-lost}
 use Rattle.walk.specs.declared.edge.Edge.the-variants.{Start}
 use Rattle.walk.specs.declared.edge.Step.the-variants as S
+use Rattle.walk.specs.declared.run.Reached.{Reached}
 use Rattle.walk.specs.declared.run.Way.the-variants as W
 use Rattle.walk.proofs.run.write_rounds.Statement.{statement}
 use Rattle.walk.proofs.run.write_rounds.Tie as tie
@@ -77,13 +78,17 @@ returns-3 c =
     let at = c .before .before .before .before .before .before .before .loop in
     ran-stops W.Ending _ _ _ _ (S.Edge (Start (at .id))) (at .list) (at .count) (at .inv) (c .before .before .before .before .write-round .ensures) (inl (inr (c .enum-told4 .given .1)))
 
+come-to-requires : tie.Need-come-to-requires Inv-loop μ-loop
+come-to-requires c κs = search needs
+
 same-length-4 : tie.Need-same-length-4 Inv-loop μ-loop
 same-length-4 c = search needs
 
 returns-4 : tie.Need-returns-4 Inv-loop μ-loop
 returns-4 c =
-    let at = c .before .loop in
-    gone-full (S.Edge (Start (at .id))) (at .list) (at .count) (at .inv) (c .loop-test .left)
+    let at = c .before .before .loop in
+    ap (λ (q : Reached). (at .list, q .count, stepAt (q .way) (q .id))) (c .come-to .ensures)
+    ∙ gone-full (S.Edge (Start (at .id))) (at .list) (at .count) (at .inv) (c .before .loop-test .left)
 
 pub write-rounds-spec : {M : Type 1} → statement M
 write-rounds-spec =
@@ -105,5 +110,6 @@ write-rounds-spec =
     enum-told-4
     same-length-3
     returns-3
+    come-to-requires
     same-length-4
     returns-4)
