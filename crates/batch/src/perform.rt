@@ -1,6 +1,7 @@
 // The commands of a trace, one after the other, on memory of which something may be known already.
 use crate::trace::Trace;
 use crate::trace::command_at;
+use command::code::Code;
 use command::command::step;
 use command::known::Known;
 use link::header::Header;
@@ -40,15 +41,21 @@ pub fn perform(
     requires { ⌜ Knows (now words) h (now scratch) known × (n * size ≤ length (now trace)) × (2 * n ≤ length (now list)) ⌝ }
     ensures { λ r. ⌜ Performs (performed n (now (trace .entry)) 0 (now (words .entry)) h (now (scratch .entry))) (now (list .entry)) (now (words .exit)) (now (scratch .exit)) (now (list .exit)) r ⌝ }
 {
+    let table = Code::ARGUMENTS;
     let mut header = h;
     let mut knows = known;
     let mut i = 0;
     while i < n {
         let c = command_at(trace, i * Trace::SIZE);
-        let done = step(words, header, scratch, knows, c);
+        let done = step(words, header, scratch, knows, &table, c);
         let answer = done.answer;
         put_answer(list, i, answer.number, answer.result);
-        header = answer.header;
+        let after = answer.header;
+        header = Header {
+            used: after.used,
+            first: after.first,
+            last: after.last,
+        };
         knows = done.known;
         i += 1;
     }

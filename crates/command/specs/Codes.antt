@@ -15,13 +15,15 @@ argumentTable = 1 ∷ 1 ∷ 2 ∷ 2 ∷ 2 ∷ 2 ∷ 2 ∷ 1 ∷ 1 ∷ 1 ∷ 1 �
 abbrev pub argumentsOf : ℕ → ℕ
 argumentsOf code = getD argumentTable (code - 1) 0
 
+-- An argument that is not used is zero.
+abbrev pub spared : Bool → ℕ → Bool
+spared used argument = cond used true (eqb argument 0)
+
 -- A known code; the unused bytes zero, as one number; each unused argument zero.
 unfoldable pub acceptable : ℕ → ℕ → ℕ → ℕ → Bool
 acceptable code unused a b =
     cond (eqb code 0) false
     (cond (ltb 24 code) false
     (cond (eqb unused 0)
-    (cond (eqb (argumentsOf code) 2) true
-    (cond (eqb (argumentsOf code) 1) (eqb b 0)
-    (cond (eqb a 0) (eqb b 0) false)))
+    (cond (spared (ltb 1 (argumentsOf code)) b) (spared (ltb 0 (argumentsOf code)) a) false)
     false))

@@ -1,7 +1,7 @@
 // The code table: how many arguments each code uses, and whether a command is acceptable. Nothing else is tested before.
 ghost use mathlib.Core.Path.{_≡_};
 ghost use Prim.Native.Nat.{_<_, _≤_};
-ghost use Rattle.command.specs.Codes.{argumentsOf, acceptable};
+ghost use Rattle.command.specs.Codes.{argumentTable, argumentsOf, spared, acceptable};
 
 // The codes of document 01, 1 to 24.
 pub struct Code(pub u8);
@@ -70,16 +70,28 @@ impl Code {
     ];
 }
 
-// How many arguments a code uses.
-pub fn arguments_of(code: u8) -> u8
-    requires { ⌜ (0 < code) × (code ≤ 24) ⌝ }
+// How many arguments a code uses, by the table.
+pub fn arguments_of(table: &[u8; 24], code: u8) -> u8
+    requires { ⌜ (now table ≡ argumentTable) × (0 < code) × (code ≤ 24) ⌝ }
     ensures { λ r. ⌜ r ≡ argumentsOf code ⌝ }
 {
-    Code::ARGUMENTS[(code - 1) as usize]
+    table[(code - 1) as usize]
 }
 
-// Whether a code is known, its three unused bytes are zero, and so is each argument that it does not use.
-pub fn is_acceptable(code: u8, unused: u32, a: u32, b: u32) -> bool
+// An argument that is not used is zero.
+fn is_spared(used: bool, argument: u32) -> bool
+    ensures { λ r. ⌜ r ≡ spared used argument ⌝ }
+{
+    if used {
+        return true;
+    }
+    argument == 0
+}
+
+// Whether a code is known, its three unused bytes are zero, and so is each argument that it does not use. The table is lent, so that
+// a batch lays it out once.
+pub fn is_acceptable(table: &[u8; 24], code: u8, unused: u32, a: u32, b: u32) -> bool
+    requires { ⌜ now table ≡ argumentTable ⌝ }
     ensures { λ r. ⌜ r ≡ acceptable code unused a b ⌝ }
 {
     if code == 0 {
@@ -91,15 +103,11 @@ pub fn is_acceptable(code: u8, unused: u32, a: u32, b: u32) -> bool
     if unused != 0 {
         return false;
     }
-    let count = arguments_of(code);
-    if count == 2 {
-        return true;
-    }
-    if count == 1 {
-        return b == 0;
-    }
-    if a == 0 {
-        return b == 0;
+    let count = arguments_of(table, code);
+    let second = is_spared(1 < count, b);
+    let first = is_spared(0 < count, a);
+    if second {
+        return first;
     }
     false
 }

@@ -2,6 +2,7 @@
 use crate::call::Call;
 use crate::call::Change;
 use crate::call::call_of;
+use crate::code::Code;
 use crate::code::is_acceptable;
 use crate::known::Known;
 use crate::known::look;
@@ -20,6 +21,7 @@ use sound::ready_number;
 use sound::sound_result;
 ghost use mathlib.Core.Path.{_≡_};
 ghost use Rattle.rules.specs.Answers.{answer};
+ghost use Rattle.command.specs.Codes.{argumentTable};
 ghost use Rattle.command.specs.Commands.{keeping, called, commanded};
 ghost use Rattle.command.specs.Known.{Knows, Gated, Did};
 ghost use Rattle.command.specs.declared.call.Call.the-variants as Calls;
@@ -171,11 +173,18 @@ fn call(
 }
 
 // One command where something may be known of the memory, and what is known after it.
-pub fn step(words: &mut [u32], h: Header, scratch: &mut [u32], known: Known, c: Command) -> Done
-    requires { ⌜ Knows (now words) h (now scratch) known ⌝ }
+pub fn step(
+    words: &mut [u32],
+    h: Header,
+    scratch: &mut [u32],
+    known: Known,
+    table: &[u8; 24],
+    c: Command,
+) -> Done
+    requires { ⌜ Knows (now words) h (now scratch) known × (now table ≡ argumentTable) ⌝ }
     ensures { λ r. ⌜ Did (commanded c (now (words .entry)) h (now (scratch .entry))) (now (words .exit)) (now (scratch .exit)) r ⌝ }
 {
-    if is_acceptable(c.code, c.unused, c.a, c.b) {
+    if is_acceptable(table, c.code, c.unused, c.a, c.b) {
         let asked = call_of(c.code);
         return call(words, h, scratch, known, asked, c.a, c.b);
     }
@@ -186,6 +195,7 @@ pub fn step(words: &mut [u32], h: Header, scratch: &mut [u32], known: Known, c: 
 pub fn one_command(words: &mut [u32], h: Header, scratch: &mut [u32], c: Command) -> Answer
     ensures { λ r. ⌜ (now (words .exit), now (scratch .exit), r) ≡ commanded c (now (words .entry)) h (now (scratch .entry)) ⌝ }
 {
-    let done = step(words, h, scratch, nothing(), c);
+    let table = Code::ARGUMENTS;
+    let done = step(words, h, scratch, nothing(), &table, c);
     done.answer
 }

@@ -4,19 +4,20 @@ use Prim.Native.Nat.{_-_}
 use lib.ListN.{length}
 use borrow.Author.Needs.{needs}
 use denote.Ref.{now}
+use Rattle.command.specs.Codes.{argumentTable}
 use Rattle.batch.specs.Batch.{performed}
 use Rattle.batch.specs.PerformLaws.{Performing, performing-begin, performing-room, performing-more, performing-end}
 use Rattle.batch.proofs.perform.perform.Statement.{statement}
 use Rattle.batch.proofs.perform.perform.Tie as tie
 
 abbrev Inv-loop : tie.InvT-loop
-Inv-loop words₀ scratch₀ trace n list₀ header₀ knows₀ i₀ words scratch list header knows i = (length words ≡ length words₀) × (length scratch ≡ length scratch₀) × Performing (performed n trace 0 words₀ header₀ scratch₀) n trace list₀ words scratch list i header knows
+Inv-loop words₀ scratch₀ trace n list₀ table header₀ knows₀ i₀ words scratch list header knows i = (length words ≡ length words₀) × (length scratch ≡ length scratch₀) × (table ≡ argumentTable) × Performing (performed n trace 0 words₀ header₀ scratch₀) n trace list₀ words scratch list i header knows
 
 abbrev μ-loop : tie.MeasureT-loop
-μ-loop words₀ scratch₀ trace n list₀ header₀ knows₀ i₀ words scratch list header knows i = n - i
+μ-loop words₀ scratch₀ trace n list₀ table header₀ knows₀ i₀ words scratch list header knows i = n - i
 
 loop-holds : tie.Need-loop-holds Inv-loop μ-loop
-loop-holds c = let a = c .before .before .before .before .args in (refl, refl, performing-begin (a .n) (now (a .trace)) (now (a .words)) (now (a .scratch)) (now (a .list)) (a .h) (c .before .before .before .before .pre .0))
+loop-holds c = let a = c .before .before .before .before .args in (refl, refl, refl, performing-begin (a .n) (now (a .trace)) (now (a .words)) (now (a .scratch)) (now (a .list)) (a .h) (c .before .before .before .before .pre .0))
 
 mul-command-at : tie.Need-mul-command-at Inv-loop μ-loop
 mul-command-at c = search needs
@@ -25,17 +26,18 @@ command-at-requires : tie.Need-command-at-requires Inv-loop μ-loop
 command-at-requires c κs = search needs
 
 step-requires : tie.Need-step-requires Inv-loop μ-loop
-step-requires c κs = c .before .before .before .before .loop .inv .2 .knows
+step-requires c κs = (c .before .before .before .before .before .loop .inv .3 .knows, c .before .before .before .before .before .loop .inv .2)
 
 put-answer-requires : tie.Need-put-answer-requires Inv-loop μ-loop
 put-answer-requires c κs =
-    let a = c .before .before .before .before .before .before .before .before .before .before .before .before .before .before .before .before .args in
-    performing-room (performed (a .n) (now (a .trace)) 0 (now (a .words)) (a .h) (now (a .scratch))) (a .n) (now (a .trace)) (now (a .list)) (c .before .before .before .before .before .before .before .before .before .before .before .before .before .before .before .before .pre .2) (c .before .before .before .before .before .before .before .before .before .before .before .loop .words) (c .before .before .before .before .before .before .before .before .before .before .before .loop .scratch) (c .before .before .before .before .before .before .before .before .before .before .before .loop .list) (c .before .before .before .before .before .before .before .before .before .before .before .loop .i) (c .before .before .before .before .before .before .before .before .before .before .before .loop .header) (c .before .before .before .before .before .before .before .before .before .before .before .loop .inv .2) (c .before .before .before .before .before .before .before .before .before .before .loop-test .taken)
+    let a = c .before .before .before .before .before .before .before .before .before .before .before .before .before .before .before .before .before .args in
+    let l = c .before .before .before .before .before .before .before .before .before .before .before .before .loop in
+    performing-room (performed (a .n) (now (a .trace)) 0 (now (a .words)) (a .h) (now (a .scratch))) (a .n) (now (a .trace)) (now (a .list)) (c .before .before .before .before .before .before .before .before .before .before .before .before .before .before .before .before .before .pre .2) (l .words) (l .scratch) (l .list) (l .i) (l .header) (l .inv .3) (c .before .before .before .before .before .before .before .before .before .before .before .loop-test .taken)
 
 add-i : tie.Need-add-i Inv-loop μ-loop
 add-i c =
-    let l = c .before .before .before .before .before .before .before .before .before .before .before .before .before .before .before .loop-test .taken in
-    let f = c .before .before .before .before .before .before .before .before .before .before .before .before .before .before .before .before .before .before .before .before .before .fits .n in
+    let l = c .before .before .before .before .before .before .before .before .before .before .before .before .before .before .before .before .loop-test .taken in
+    let f = c .before .before .before .before .before .before .before .before .before .before .before .before .before .before .before .before .before .before .before .before .before .before .fits .n in
     search needs
 
 loop-less : tie.Need-loop-less Inv-loop μ-loop
@@ -43,10 +45,10 @@ loop-less c = search needs
 
 loop-again : tie.Need-loop-again Inv-loop μ-loop
 loop-again c =
-    let a = c .before .before .before .before .before .before .before .before .before .before .before .before .before .before .before .before .before .before .before .before .before .args in
-    let l = c .before .before .before .before .before .before .before .before .before .before .before .before .before .before .before .before .loop in
-    let P = performing-more (performed (a .n) (now (a .trace)) 0 (now (a .words)) (a .h) (now (a .scratch))) (a .n) (now (a .trace)) (now (a .list)) (c .before .before .before .before .before .before .before .before .before .before .before .before .before .before .before .before .before .before .before .before .before .pre .2) (l .words) (l .scratch) (l .list) (l .i) (l .header) (l .inv .2) (c .before .before .before .before .before .before .before .before .before .before .before .before .before .before .before .loop-test .taken) (c .before .before .before .before .before .before .before .before .before .before .before .before .before .before .command-at .ensures) (c .before .before .before .before .before .before .before .before .before .before .before .step .ensures) (c .before .before .before .before .put-answer .ensures) in
-    (c .before .before .before .before .before .before .before .before .before .before .words .given ∙ l .inv .0, c .before .before .before .before .before .before .before .before .scratch .given ∙ l .inv .1, P)
+    let a = c .before .before .before .before .before .before .before .before .before .before .before .before .before .before .before .before .before .before .before .before .before .before .args in
+    let l = c .before .before .before .before .before .before .before .before .before .before .before .before .before .before .before .before .before .loop in
+    let P = performing-more (performed (a .n) (now (a .trace)) 0 (now (a .words)) (a .h) (now (a .scratch))) (a .n) (now (a .trace)) (now (a .list)) (c .before .before .before .before .before .before .before .before .before .before .before .before .before .before .before .before .before .before .before .before .before .before .pre .2) (l .words) (l .scratch) (l .list) (l .i) (l .header) (l .inv .3) (c .before .before .before .before .before .before .before .before .before .before .before .before .before .before .before .before .loop-test .taken) (c .before .before .before .before .before .before .before .before .before .before .before .before .before .before .before .command-at .ensures) (c .before .before .before .before .before .before .before .before .before .before .before .step .ensures) (c .before .before .before .before .put-answer .ensures) in
+    (c .before .before .before .before .before .before .before .before .before .before .words .given ∙ l .inv .0, c .before .before .before .before .before .before .before .before .scratch .given ∙ l .inv .1, l .inv .2, P)
 
 same-length : tie.Need-same-length Inv-loop μ-loop
 same-length c = c .before .loop .inv .0
@@ -55,13 +57,13 @@ same-length-2 : tie.Need-same-length-2 Inv-loop μ-loop
 same-length-2 c = c .before .loop .inv .1
 
 same-length-3 : tie.Need-same-length-3 Inv-loop μ-loop
-same-length-3 c = c .before .loop .inv .2 .places
+same-length-3 c = c .before .loop .inv .3 .places
 
 returns : tie.Need-returns Inv-loop μ-loop
 returns c =
     let a = c .before .before .before .before .before .before .args in
     let l = c .before .loop in
-    performing-end (performed (a .n) (now (a .trace)) 0 (now (a .words)) (a .h) (now (a .scratch))) (a .n) (now (a .trace)) (now (a .list)) (c .before .before .before .before .before .before .pre .2) (l .words) (l .scratch) (l .list) (l .i) (l .header) (l .inv .2) (c .loop-test .left)
+    performing-end (performed (a .n) (now (a .trace)) 0 (now (a .words)) (a .h) (now (a .scratch))) (a .n) (now (a .trace)) (now (a .list)) (c .before .before .before .before .before .before .pre .2) (l .words) (l .scratch) (l .list) (l .i) (l .header) (l .inv .3) (c .loop-test .left)
 
 pub perform-spec : {M : Type 1} → statement M
 perform-spec =

@@ -1,4 +1,5 @@
 -- The contract of `command::command::one_command`.
+use mathlib.Core.Path.{refl}
 use borrow.Author.Needs.{needs}
 use denote.Ref.{now}
 use Rattle.command.specs.KnownLaws.{knows-nothing}
@@ -9,7 +10,7 @@ nothing-requires : tie.Need-nothing-requires
 nothing-requires c κs = search needs
 
 step-requires : tie.Need-step-requires
-step-requires c κs = let a = c .before .before .before .before .before .args in knows-nothing (now (a .words)) (a .h) (now (a .scratch)) (c .nothing .ensures .0) (c .nothing .ensures .1)
+step-requires c κs = let a = c .before .before .before .before .before .before .args in (knows-nothing (now (a .words)) (a .h) (now (a .scratch)) (c .before .nothing .ensures .0) (c .before .nothing .ensures .1), refl)
 
 same-length : tie.Need-same-length
 same-length c = search needs

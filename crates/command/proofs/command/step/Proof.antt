@@ -2,8 +2,8 @@
 use mathlib.Core.Path.{sym, ap, _∙_}
 use borrow.Author.Needs.{needs}
 use denote.Ref.{now}
-use Rattle.command.specs.StepLaws.{did-same, did-accepted, did-rejected}
 use Rattle.command.specs.Commands.{called}
+use Rattle.command.specs.StepLaws.{did-same, did-accepted, did-rejected}
 use Rattle.command.specs.declared.call.Call.{Call}
 use Rattle.command.proofs.command.step.Statement.{statement}
 use Rattle.command.proofs.command.step.Tie as tie
@@ -35,7 +35,7 @@ refuse-requires c κs = search needs
 returns-2 : tie.Need-returns-2
 returns-2 c =
     let a = c .before .before .before .before .before .args in
-    did-rejected (a .c) (now (a .words)) (a .h) (now (a .scratch)) (sym (c .before .before .is-acceptable .ensures) ∙ c .before .if1 .left) (c .before .before .before .before .before .pre) (c .refuse .ensures)
+    did-rejected (a .c) (now (a .words)) (a .h) (now (a .scratch)) (sym (c .before .before .is-acceptable .ensures) ∙ c .before .if1 .left) (c .before .before .before .before .before .pre .0) (c .refuse .ensures)
 
 pub step-spec : {M : Type 1} → statement M
 step-spec =
