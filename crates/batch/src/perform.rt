@@ -56,7 +56,13 @@ pub fn perform(
             first: after.first,
             last: after.last,
         };
-        knows = done.known;
+        let known = done.known;
+        let verdict = known.verdict;
+        knows = Known {
+            looked: known.looked,
+            verdict,
+            clean: known.clean,
+        };
         i += 1;
     }
     Performed {
