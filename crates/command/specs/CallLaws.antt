@@ -1,11 +1,15 @@
--- The ranges of like codes, and codes past the table. By computing the table.
+-- The ranges of like codes, and codes that the table does not have. By computing the table.
 use mathlib.Core.Path.{_≡_, refl, ap, _∙_}
+use mathlib.Core.Logic.{_⊎_, inl, inr}
+use mathlib.Core.Bool.{false}
 use mathlib.Core.List.{_∷_}
 use Prim.Native.Nat.{ℕ, zero, suc, _+_, _-_, _≤_, _<_}
 use native.Mathlib.Omega.{arith}
 use lib.ListN.{List·getD-eq-default}
+use borrow.Author.Tests.{eq-eqb, ne-eqb, lt-ltb}
 use Rattle.link.specs.Words.{PREVIOUS}
 use Rattle.moves.specs.declared.place.Place.the-variants.{Before}
+use Rattle.command.specs.Codes.{acceptable}
 use Rattle.command.specs.Calls.{placeTable, placeOf, wordTable, wordOf, callTable, callOf}
 use Rattle.command.specs.declared.call.Call.{Call}
 use Rattle.command.specs.declared.call.Call.the-variants.{Make, Read, Validate}
@@ -19,6 +23,12 @@ word-past n h = List·getD-eq-default wordTable PREVIOUS h
 
 pub call-past : (code : ℕ) → 25 ≤ code → callOf code ≡ Validate
 call-past code h = List·getD-eq-default (Validate ∷ callTable) Validate h
+
+-- a code that is none of the table's is refused
+pub unknown : (code unused a b : ℕ) → (code < 1) ⊎ (24 < code) → acceptable code unused a b ≡ false
+unfolding acceptable
+unknown code unused a b (inl h) = let e : code ≡ 0 = omega arith in simp (eq-eqb code 0 e)
+unknown code unused a b (inr h) = simp (ne-eqb code 0 (λ (e : code ≡ 0). omega arith), lt-ltb 24 code h)
 
 -- a number past n, one that is not n
 pub skip : (x n : ℕ) → n ≤ x → (x ≡ n → ⊥) → n + 1 ≤ x

@@ -1,4 +1,4 @@
-// Which call a code names: single codes, ranges of like codes, and none for all others, which are refused before.
+// Which call a code names: single codes and ranges of like codes. All others are refused before (`command::step`).
 use crate::code::Code;
 use link::words::Slot;
 use moves::place::Place;

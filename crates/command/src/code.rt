@@ -1,4 +1,4 @@
-// The code table: how many arguments each code uses, and whether a command is acceptable. Nothing else is tested before.
+// The code table: how many arguments each code uses, and whether a command of a known code is acceptable.
 ghost use mathlib.Core.Path.{_≡_};
 ghost use Prim.Native.Nat.{_<_, _≤_};
 ghost use Rattle.command.specs.Codes.{argumentTable, argumentsOf, spared, acceptable};
@@ -88,18 +88,12 @@ fn is_spared(used: bool, argument: u32) -> bool
     argument == 0
 }
 
-// Whether a code is known, its three unused bytes are zero, and so is each argument that it does not use. The table is lent, so that
-// a batch lays it out once.
+// Of a known code: whether its three unused bytes are zero, and each argument that it does not use. The table is lent, so that a
+// batch lays it out once.
 pub fn is_acceptable(table: &[u8; 24], code: u8, unused: u32, a: u32, b: u32) -> bool
-    requires { ⌜ now table ≡ argumentTable ⌝ }
+    requires { ⌜ (now table ≡ argumentTable) × (0 < code) × (code ≤ 24) ⌝ }
     ensures { λ r. ⌜ r ≡ acceptable code unused a b ⌝ }
 {
-    if code == 0 {
-        return false;
-    }
-    if Code::LAST < code {
-        return false;
-    }
     if unused != 0 {
         return false;
     }

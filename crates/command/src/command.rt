@@ -184,11 +184,16 @@ pub fn step(
     requires { ⌜ Knows (now words) h (now scratch) known × (now table ≡ argumentTable) ⌝ }
     ensures { λ r. ⌜ Did (commanded c (now (words .entry)) h (now (scratch .entry))) (now (words .exit)) (now (scratch .exit)) r ⌝ }
 {
-    if is_acceptable(table, c.code, c.unused, c.a, c.b) {
-        let asked = call_of(c.code);
-        return call(words, h, scratch, known, asked, c.a, c.b);
+    match c.code {
+        Code::NEW..=Code::LAST => {
+            if is_acceptable(table, c.code, c.unused, c.a, c.b) {
+                let asked = call_of(c.code);
+                return call(words, h, scratch, known, asked, c.a, c.b);
+            }
+            refuse(h, Number::COMMAND, known)
+        }
+        _ => refuse(h, Number::COMMAND, known),
     }
-    refuse(h, Number::COMMAND, known)
 }
 
 // One command on any memory.

@@ -1,7 +1,9 @@
 -- The contract of `command::command::step`.
 use mathlib.Core.Path.{sym, ap, _∙_}
+use mathlib.Core.Logic.{⊎-map}
 use borrow.Author.Needs.{needs}
 use denote.Ref.{now}
+use Rattle.command.specs.CallLaws.{unknown}
 use Rattle.command.specs.Commands.{called}
 use Rattle.command.specs.StepLaws.{did-same, did-accepted, did-rejected}
 use Rattle.command.specs.declared.call.Call.{Call}
@@ -25,17 +27,25 @@ same-length-2 c = search needs
 
 returns : tie.Need-returns
 returns c =
-    let a = c .before .before .before .before .before .before .before .before .before .before .before .before .args in
-    did-accepted (a .c) (now (a .words)) (a .h) (now (a .scratch)) (sym (c .before .before .before .before .before .before .before .before .before .is-acceptable .ensures) ∙ c .before .before .before .before .before .before .before .before .if1 .taken)
+    let a = c .before .before .before .before .before .before .before .before .before .before .before .before .before .before .before .before .args in
+    did-accepted (a .c) (now (a .words)) (a .h) (now (a .scratch)) (sym (c .before .before .before .before .before .before .before .before .before .is-acceptable .ensures) ∙ c .before .before .before .before .before .before .before .before .if3 .taken)
     (did-same (ap (λ (x : Call). called x (a .c .a) (a .c .b) (now (a .words)) (a .h) (now (a .scratch))) (c .before .before .before .before .before .before .before .call-of .ensures)) (c .before .before .before .before .call .ensures))
 
 refuse-requires : tie.Need-refuse-requires
 refuse-requires c κs = search needs
 
+refuse-requires-2 : tie.Need-refuse-requires-2
+refuse-requires-2 c κs = search needs
+
 returns-2 : tie.Need-returns-2
 returns-2 c =
+    let a = c .before .before .before .before .before .before .before .before .before .args in
+    did-rejected (a .c) (now (a .words)) (a .h) (now (a .scratch)) (sym (c .before .before .is-acceptable .ensures) ∙ c .before .if3 .left) (c .before .before .before .before .before .before .before .before .before .pre .0) (c .refuse .ensures)
+
+returns-3 : tie.Need-returns-3
+returns-3 c =
     let a = c .before .before .before .before .before .args in
-    did-rejected (a .c) (now (a .words)) (a .h) (now (a .scratch)) (sym (c .before .before .is-acceptable .ensures) ∙ c .before .if1 .left) (c .before .before .before .before .before .pre .0) (c .refuse .ensures)
+    did-rejected (a .c) (now (a .words)) (a .h) (now (a .scratch)) (unknown (a .c .code) (a .c .unused) (a .c .a) (a .c .b) (⊎-map (λ t. t .taken) (λ e. e .2 .left) (c .before .if1 .came))) (c .before .before .before .before .before .pre .0) (c .refuse2 .ensures)
 
 pub step-spec : {M : Type 1} → statement M
 step-spec =
@@ -48,4 +58,6 @@ step-spec =
     same-length-2
     returns
     refuse-requires
-    returns-2)
+    refuse-requires-2
+    returns-2
+    returns-3)
