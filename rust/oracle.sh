@@ -20,6 +20,9 @@ done
 for f in id arena; do
     cat "$src/$f.rs" "$here/oracle/${f}_words.rs" > "$out/src/$f.rs"
 done
+# What a load does to the free chain is there for serde only: built without it.
+sed '/cfg(feature = "serde")/ { N; /fn unlink_exhausted_free_slots/ s/^[^\n]*\n//; }' "$out/src/arena.rs" > "$out/src/arena.new"
+mv "$out/src/arena.new" "$out/src/arena.rs"
 # A module that SRC leaves out: only its name is needed.
 cp "$here/oracle/debug_pretty_print.rs" "$out/src/debug_pretty_print.rs"
 chmod -R u+w "$out/src"

@@ -3,21 +3,22 @@
 //! compare [MILLIONS [SEED]]: two slots with every choice of links, memories of the crate's own calls, damaged and random ones, large ones
 //! compare three: three live slots, every choice of their fifteen links, 4^15 memories
 
+#[path = "../common/damage.rs"]
 mod damage;
 #[path = "../common/dice.rs"]
 mod dice;
-#[path = "../common/lift.rs"]
-mod lift;
 #[path = "../common/paper.rs"]
 mod paper;
 #[path = "../common/shapes.rs"]
 mod shapes;
 
-use damage::{damage, pair_ring};
+use damage::{damage, lent, pair_ring, random_words};
 use dice::Dice;
 use indextree::Arena;
+use lift::face;
 use paper::Sentence;
 use shapes::*;
+use std::hint::black_box;
 
 #[derive(Default)]
 struct Tally {
@@ -57,7 +58,9 @@ impl Tally {
         let before: Vec<u32> = (0..lent as u32).map(|i| i.wrapping_add(self.tried as u32) | 1).collect();
         let mut scratch = before.clone();
         let (mut words_lent, mut header_lent) = (words.to_vec(), header);
-        let got = lift::validate(&mut words_lent, &mut header_lent, &mut scratch);
+        let got = face::validate(&words_lent, &header_lent, &mut scratch);
+        // That it only reads is looked at below, not believed.
+        black_box((&mut words_lent, &mut header_lent));
         let mut after = before;
         let want = match paper::unfit(words, header, lent) {
             0 => {
@@ -77,11 +80,9 @@ impl Tally {
     /// Whether memory is sound, by the reading and by the crate.
     fn read(&mut self, words: &[u32], header: [u32; 3], with_crate: bool) -> bool {
         let reading = paper::read(words, header);
-        if with_crate {
-            if let Some(arena) = Arena::from_words(words, header) {
-                self.held += 1;
-                assert!(arena.validate() == reading.sound(), "the crate differs from the reading: {header:?} {words:?}");
-            }
+        if let Some(arena) = with_crate.then(|| Arena::from_words(words, header)).flatten() {
+            self.held += 1;
+            assert!(arena.validate() == reading.sound(), "the crate differs from the reading: {header:?} {words:?}");
         }
         if let [sentence] = reading.broken[..] {
             self.count_alone(sentence);
@@ -125,37 +126,6 @@ fn three_slots(t: &mut Tally) {
         }
         t.compare(&words, [3, 0, 0], 6, false);
     }
-}
-
-/// Memory that no calls made: few values, many of them links to few slots.
-fn random_words(d: &mut Dice) -> (Vec<u32>, [u32; 3]) {
-    let used = d.below(5);
-    let mut words = vec![0; used * 7];
-    for slot in words.chunks_mut(7) {
-        slot[0] = d.one_of(&[0, 0, 0, 3, 98_304, 131_071]);
-        slot[1..].fill_with(|| d.one_of(&[0, 0, 65_536, 131_072, 196_608, 65_539]));
-        slot[1] = d.one_of(&[0, 1, 2, 3, 4, 65_536]);
-    }
-    (words, [used as u32, d.below(3) as u32, d.below(3) as u32])
-}
-
-/// The words with others behind them, perhaps a slot too few; the header with another number of used, now and then; some scratch.
-fn lent(d: &mut Dice, words: &[u32], header: [u32; 3]) -> (Vec<u32>, [u32; 3], usize) {
-    let (mut words, mut header) = (words.to_vec(), header);
-    match d.below(16) {
-        0 => words.truncate(words.len() - words.len().min(1 + d.below(8))),
-        1 => header[0] = d.one_of(&[0, header[0] / 2, header[0] + 1, 65_535, 65_536, u32::MAX]),
-        2..=5 => words.extend((0..d.below(16)).map(|_| 0x1_0001)),
-        _ => {}
-    }
-    let enough = 2 * (header[0] as usize).min(1_000);
-    let scratch = match d.below(16) {
-        0 => enough.saturating_sub(1),
-        1 => d.below(enough + 1),
-        2..=5 => enough + d.below(9),
-        _ => enough,
-    };
-    (words, header, scratch)
 }
 
 fn small(d: &mut Dice, t: &mut Tally, most: u64) {

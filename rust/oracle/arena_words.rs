@@ -1,4 +1,3 @@
-
 // ---- added by rust/oracle.sh: an arena from words, and words from an arena
 
 impl Arena<u32> {
@@ -42,5 +41,31 @@ impl Arena<u32> {
         }
         let slot = |x: Option<usize>| x.map_or(0, |i| i as u32 + 1);
         (words, [self.nodes.len() as u32, slot(self.first_free_slot), slot(self.last_free_slot)])
+    }
+
+    /// Whether these are its words and its header.
+    pub fn has_words(&self, words: &[u32], header: [u32; 3]) -> bool {
+        let number = |x: Option<NodeId>| x.map_or(0, NodeId::number);
+        let slot = |x: Option<usize>| x.map_or(0, |i| i as u32 + 1);
+        header == [self.nodes.len() as u32, slot(self.first_free_slot), slot(self.last_free_slot)]
+            && self.nodes.iter().zip(words.chunks_exact(7)).all(|(n, w)| {
+                let (kind, value) = match n.data {
+                    NodeData::Data(v) => (0, v),
+                    NodeData::NextFree(x) => (1, slot(x)),
+                };
+                w[0] == kind * 65_536 + n.stamp.bits()
+                    && w[1] == value
+                    && w[2] == number(n.parent)
+                    && w[3] == number(n.previous_sibling)
+                    && w[4] == number(n.next_sibling)
+                    && w[5] == number(n.first_child)
+                    && w[6] == number(n.last_child)
+            })
+    }
+
+    /// What its own load does to an arena that `validate` accepts.
+    pub fn loaded(mut self) -> Self {
+        self.unlink_exhausted_free_slots();
+        self
     }
 }

@@ -1,4 +1,8 @@
-//! Wrong edits of memory: of a word, of the header, and some that no look at a single slot finds.
+//! Memory that no calls made: wrong edits of a word, of the header, and some that no look at a single slot finds; random words; lengths
+//! that are too short.
+
+// Not every program here uses all of it.
+#![allow(dead_code)]
 
 use crate::dice::Dice;
 
@@ -104,4 +108,35 @@ pub fn pair_ring(words: &mut [u32], a: usize, b: usize) {
         words[(slot - 1) * 7] = id(words, slot) & 0x7fff;
         words[(slot - 1) * 7 + 2..slot * 7].copy_from_slice(&[its, 0, 0, its, its]);
     }
+}
+
+/// Memory that no calls made: few values, many of them links to few slots.
+pub fn random_words(d: &mut Dice) -> (Vec<u32>, [u32; 3]) {
+    let used = d.below(5);
+    let mut words = vec![0; used * 7];
+    for slot in words.chunks_mut(7) {
+        slot[0] = d.one_of(&[0, 0, 0, 3, 98_304, 131_071]);
+        slot[1..].fill_with(|| d.one_of(&[0, 0, 65_536, 131_072, 196_608, 65_539]));
+        slot[1] = d.one_of(&[0, 1, 2, 3, 4, 65_536]);
+    }
+    (words, [used as u32, d.below(3) as u32, d.below(3) as u32])
+}
+
+/// The words with others behind them, perhaps a slot too few; the header with another number of used, now and then; some scratch.
+pub fn lent(d: &mut Dice, words: &[u32], header: [u32; 3]) -> (Vec<u32>, [u32; 3], usize) {
+    let (mut words, mut header) = (words.to_vec(), header);
+    match d.below(16) {
+        0 => words.truncate(words.len() - words.len().min(1 + d.below(8))),
+        1 => header[0] = d.one_of(&[0, header[0] / 2, header[0] + 1, 65_535, 65_536, u32::MAX]),
+        2..=5 => words.extend((0..d.below(16)).map(|_| 0x1_0001)),
+        _ => {}
+    }
+    let enough = 2 * (header[0] as usize).min(1_000);
+    let scratch = match d.below(16) {
+        0 => enough.saturating_sub(1),
+        1 => d.below(enough + 1),
+        2..=5 => enough + d.below(9),
+        _ => enough,
+    };
+    (words, header, scratch)
 }
