@@ -1,8 +1,9 @@
 -- What it is for a batch's memory of the memory to be right. It is no promise to the user: only what the batch carries along.
 use mathlib.Core.Path.{_≡_}
-use mathlib.Core.Bool.{true}
+use mathlib.Core.Bool.{Bool, true, false, cond}
 use mathlib.Core.List.{List}
 use Prim.Native.Nat.{ℕ, _*_, _≤_}
+use lib.Dec.{leb}
 use lib.ListN.{length}
 use Rattle.link.specs.declared.header.Header.{Header}
 use Rattle.examine.specs.Scratch.{zeroed}
@@ -18,6 +19,10 @@ pub record Knows (m : List ℕ) (h : Header) (scratch : List ℕ) (k : Known) : 
   pub verdict : k .looked ≡ true → k .verdict ≡ examined m h
   pub zeros : zeroed (k .clean) scratch ≡ scratch
   pub fits : k .clean ≤ length scratch
+
+-- A look finds nothing to do.
+unfoldable pub settled : Known → ℕ → Bool
+settled k used = cond (k .looked) (leb (2 * used) (k .clean)) false
 
 -- The first n words are zero now, and `clean` of them are known to be.
 pub record Cleaned (n : ℕ) (before after : List ℕ) (clean : ℕ) : Type 0 where

@@ -1,16 +1,18 @@
 -- Zeroing the first words of the scratch, twice and by less; and what a look leaves known.
 use mathlib.Core.Path.{_≡_, refl, sym, ap, _∙_, subst}
-use mathlib.Core.Bool.{Bool, true, false, false≢true}
+use mathlib.Core.Bool.{Bool, true, false, cond, false≢true}
 use mathlib.Core.List.{List, _++_, append-assoc}
 use Prim.Native.Nat.{ℕ, _+_, _-_, _*_, _≤_}
 use native.Mathlib.Omega.{arith}
+use lib.Dec.{leb}
 use lib.ListN.{length, replicate, drop, length-replicate, replicate-append-replicate}
 use lib.Seq.{drop-at, length-front, length-take-le}
+use borrow.Author.Tests.{leb-true}
 use Rattle.link.specs.declared.header.Header.{Header}
 use Rattle.examine.specs.Scratch.{zeroed}
 use Rattle.examine.specs.Examination.{examined}
 use Rattle.examine.specs.declared.chain.Verdict.{Verdict}
-use Rattle.command.specs.Known.{Knows, Cleaned, Looked}
+use Rattle.command.specs.Known.{Knows, Cleaned, Looked, settled}
 use Rattle.command.specs.declared.known.Known.{Known}
 
 pub zeroed-length : (n : ℕ) (s : List ℕ) → n ≤ length s → length (zeroed n s) ≡ length s
@@ -60,6 +62,19 @@ looked-known m h s K e w = record {
   looked = refl;
   knows = record { verdict = λ _. K .verdict e; zeros = w .zeros; fits = w .fits };
 }
+
+-- nothing is left to do
+pub looked-still : (m : List ℕ) (h : Header) (s : List ℕ) {k : Known} → Knows m h s k → settled k (h .used) ≡ true → Looked m h s s k
+unfolding settled
+looked-still m h s {k} K e = by (k .looked) refl e
+  where
+    by : (b : Bool) → k .looked ≡ b → cond b (leb (2 * h .used) (k .clean)) false ≡ true → Looked m h s s k
+    by true l t = record {
+      zero = cleaned-less (2 * h .used) (k .clean) s (leb-true (2 * h .used) (k .clean) t) (K .zeros) (K .fits) .zero;
+      looked = l;
+      knows = K;
+    }
+    by false l t = absurd (false≢true t)
 
 -- examined now
 pub looked-now : (m : List ℕ) (h : Header) (s : List ℕ) {s′ : List ℕ} {v : Verdict} → 2 * h .used ≤ length s

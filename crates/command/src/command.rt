@@ -5,6 +5,7 @@ use crate::call::call_of;
 use crate::code::Code;
 use crate::code::is_acceptable;
 use crate::known::Known;
+use crate::known::is_settled;
 use crate::known::look;
 use crate::known::nothing;
 use crate::work::work;
@@ -72,6 +73,13 @@ fn pass(words: &[u32], h: Header, scratch: &mut [u32], known: Known) -> Gate
 {
     let number = fit(words, h.used, scratch);
     if number == Number::DONE {
+        if is_settled(known, h.used) {
+            let verdict = known.verdict;
+            return Gate {
+                number: ready_number(verdict),
+                known,
+            };
+        }
         let after = look(words, h, scratch, known);
         let verdict = after.verdict;
         return Gate {

@@ -9,7 +9,7 @@ ghost use lib.ListN.{length};
 ghost use Rattle.link.specs.Words.{width};
 ghost use Rattle.examine.specs.Scratch.{zeroed};
 ghost use Rattle.examine.specs.declared.chain.Verdict.the-variants as Is;
-ghost use Rattle.command.specs.Known.{Knows, Cleaned, Looked};
+ghost use Rattle.command.specs.Known.{Knows, Cleaned, Looked, settled};
 
 pub struct Known {
     pub looked: bool,
@@ -61,6 +61,16 @@ fn clean_to(scratch: &mut [u32], clean: usize, n: usize) -> usize
         return n;
     }
     clean
+}
+
+// Whether a look would find nothing to do: the verdict is known, and the scratch words are zero.
+pub fn is_settled(known: Known, used: u32) -> bool
+    ensures { λ r. ⌜ r ≡ settled known used ⌝ }
+{
+    if known.looked {
+        return 2 * (used as usize) <= known.clean;
+    }
+    false
 }
 
 // The verdict: known, or by an examination; the first 2 × used scratch words are zero then.

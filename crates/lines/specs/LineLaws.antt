@@ -38,6 +38,33 @@ unfolding digitsOf
 digits-none l at zero n p = refl
 digits-none l at (suc k) n p = absurd (omega arith)
 
+last-of : (x y : ℕ) → y < 10 → (10 * x + y) % 10 ≡ y
+last-of x y h = omega arith
+
+rest-of : (x y : ℕ) → y < 10 → (10 * x + y) / 10 ≡ x
+rest-of x y h = omega arith
+
+-- two at a time, from the last one back
+pub digits-pair : (l : List ℕ) (at k n : ℕ) → 1 < k
+    → sets l at (digitsOf k n)
+    ≡ sets (set (set l (at + (k - 2) + 1) (48 + n % 100 % 10)) (at + (k - 2)) (48 + n % 100 / 10)) at (digitsOf (k - 2) (n / 100))
+digits-pair l at k n p =
+    let tens : n / 10 ≡ 10 * (n / 100) + n % 100 / 10 = omega arith in
+    let small : n % 100 / 10 < 10 = omega arith in
+    let one : n % 10 ≡ n % 100 % 10 = omega arith in
+    let ten : n / 10 % 10 ≡ n % 100 / 10 = ap (λ (x : ℕ). x % 10) tens ∙ last-of (n / 100) (n % 100 / 10) small in
+    let high : n / 10 / 10 ≡ n / 100 = ap (λ (x : ℕ). x / 10) tens ∙ rest-of (n / 100) (n % 100 / 10) small in
+    let left : k - 1 - 1 ≡ k - 2 = omega arith in
+    let place : at + (k - 1) ≡ at + (k - 2) + 1 = omega arith in
+    digits-last l at k n (omega arith) ∙ digits-last (set l (at + (k - 1)) (48 + n % 10)) at (k - 1) (n / 10) (omega arith)
+    ∙ rw (one, ten, high, left, place) refl
+
+pub digits-one : (l : List ℕ) (at k n : ℕ) → k ≡ 1 → sets l at (digitsOf k n) ≡ set l at (48 + n % 10)
+digits-one l at k n e =
+    let p : at + (k - 1) ≡ at = omega arith in
+    digits-last l at k n (omega arith) ∙ digits-none (set l (at + (k - 1)) (48 + n % 10)) at (k - 1) (n / 10) (omega arith)
+    ∙ ap (λ (j : ℕ). set l j (48 + n % 10)) p
+
 pub places-bound : (n : ℕ) → placesOf n ≤ 10
 unfolding placesOf
 places-bound n =

@@ -40,17 +40,22 @@ pub fn places(n: u32) -> usize
     10
 }
 
-// The last k digits, from the last one back.
+// The last k digits, from the last one back, two at a time.
 fn put_digits(out: &mut [u8], at: usize, k: usize, n: u32)
     requires { ⌜ at + k ≤ length (now out) ⌝ }
     ensures { λ _. ⌜ now (out .exit) ≡ sets (now (out .entry)) at (digitsOf k n) ⌝ }
 {
     let mut i = k;
     let mut rest = n;
-    while i > 0 {
-        i -= 1;
-        out[at + i] = (48 + rest % 10) as u8;
-        rest /= 10;
+    while i > 1 {
+        i -= 2;
+        let pair = rest % 100;
+        out[at + i + 1] = (48 + pair % 10) as u8;
+        out[at + i] = (48 + pair / 10) as u8;
+        rest /= 100;
+    }
+    if i == 1 {
+        out[at] = (48 + rest % 10) as u8;
     }
 }
 
