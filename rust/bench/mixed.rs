@@ -4,7 +4,7 @@
 use crate::dice::Dice;
 use crate::shapes::churned;
 use crate::theirs::{self, ARGUMENTS, Command, found, number};
-use crate::timing::{Aims, interleaved, micro, time_on};
+use crate::timing::{Aims, interleaved, median, micro, time, time_on};
 use indextree::{Arena, NodeId};
 use lift::face;
 use std::hint::black_box;
@@ -188,6 +188,11 @@ pub fn kinds(rounds: usize) {
         let (theirs, ours) = compare(&mix, rounds);
         println!("| {name} | {} | {} | {:.2} |", micro(theirs), micro(ours), ours / theirs);
     }
+    // What decoding, refusing and answering cost: commands of code 0, on nothing.
+    let (trace, mut answers) = (vec![0u8; 12 * 100_000], vec![0; 200_000]);
+    let mut unknown = || time(1, || assert_eq!(face::batch(&mut [], &mut [0; 3], &mut [], black_box(&trace), &mut answers), (0, 100_000)));
+    let mut times: Vec<f64> = (0..rounds).map(|_| unknown()).collect();
+    println!("\nA command of an unknown code, decoded, refused and answered by lift_batch: {} µs.", micro(median(&mut times) / 1e5));
 }
 
 pub fn table(rounds: usize, aims: &mut Aims) {

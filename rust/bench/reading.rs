@@ -118,7 +118,7 @@ fn append(s: &mut Sides, rounds: usize) -> (f64, f64) {
 }
 
 /// Save and load against copying the words, and against a plain loop of bytes.
-fn image(s: &Sides, rounds: usize) {
+fn image(s: &Sides, slots: usize, rounds: usize, aims: &mut Aims) {
     let length = 11 + 4 * s.words.len();
     let mut bytes = vec![0u8; length];
     let mut scratch = s.scratch.clone();
@@ -139,6 +139,11 @@ fn image(s: &Sides, rounds: usize) {
         &s.name,
         interleaved(rounds, || to_bytes() + time(s.calls, || assert!(black_box(&s.arena).validate())), &mut save),
     );
+    let mut examined = s.scratch.clone();
+    let mut examine = || time(s.calls, || assert_eq!(face::validate(black_box(&s.words), &s.header, &mut examined), (0, 1)));
+    let beyond = interleaved(rounds, &mut to_bytes, || save() - examine());
+    row("save less its examination, against `to_le_bytes` in a loop", &s.name, beyond);
+    aims.add(&format!("save beyond its examination, {slots} slots"), 1.5, beyond.1 / beyond.0);
     let (mut words, mut header, mut scratch) = (vec![0u32; s.words.len()], [0; 3], s.scratch.clone());
     let mut load = || time(s.calls, || assert_eq!(face::load(black_box(&bytes), &mut words, &mut header, &mut scratch), (0, 0)));
     let (copy, loaded) = interleaved(rounds, || time(s.calls, || black_box(&mut copied).copy_from_slice(black_box(&s.words))), &mut load);
@@ -151,6 +156,9 @@ fn image(s: &Sides, rounds: usize) {
         })
     };
     row("load, against `from_le_bytes` in a loop", &s.name, interleaved(rounds, &mut from_bytes, &mut load));
+    let beyond = interleaved(rounds, &mut from_bytes, || load() - examine());
+    row("load less its examination, against `from_le_bytes` in a loop", &s.name, beyond);
+    aims.add(&format!("load beyond its examination, {slots} slots"), 1.5, beyond.1 / beyond.0);
     row(
         "load, against `from_le_bytes` and `validate`",
         &s.name,
@@ -172,19 +180,19 @@ pub fn tables(rounds: usize, aims: &mut Aims) {
             aims.add(&format!("stepped walk, {slots} slots"), 0.8, walked.1 / walked.0);
             for (kind, name) in MEASURED {
                 if kind < 3 {
-                    let iterated = list(&s, kind, false, rounds);
-                    row(&format!("{name}, with its examination, against the iterator"), &s.name, iterated);
-                    if kind == 0 {
-                        aims.add(&format!("descendants list with its examination, {slots} slots"), 0.6, iterated.1 / iterated.0);
-                    }
+                    row(&format!("{name}, with its examination, against the iterator"), &s.name, list(&s, kind, false, rounds));
                 }
-                row(&format!("{name}, with its examination, against `validate` and the iterator"), &s.name, list(&s, kind, true, rounds));
+                let both = list(&s, kind, true, rounds);
+                row(&format!("{name}, with its examination, against `validate` and the iterator"), &s.name, both);
+                if kind == 0 {
+                    aims.add(&format!("descendants list against `validate` and the iterator, {slots} slots"), 0.6, both.1 / both.0);
+                }
             }
             let appended = append(&mut s, rounds);
             row("checked append, with its examination, against `validate` and `checked_append`", &s.name, appended);
             aims.add(&format!("checked append with its examination, {slots} slots"), 1.0, appended.1 / appended.0);
             if s.name.contains("churned") {
-                image(&s, rounds);
+                image(&s, slots, rounds, aims);
             }
         }
     }
