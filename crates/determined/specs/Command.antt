@@ -10,6 +10,7 @@ use Rattle.command.specs.Commands.{Outcome}
 use Rattle.command.proofs.command.step
 use Rattle.command.proofs.known.nothing
 use Rattle.command.proofs.known.fresh
+use Rattle.command.proofs.known.is_settled
 use Rattle.command.proofs.known.look
 use Rattle.command.proofs.call.call_of
 use Rattle.command.proofs.code.arguments_of
@@ -34,6 +35,9 @@ one-work _ _ _ _ = one-value (λ t. (t .1, (t .0, (tt, (tt, (tt, (tt, tt)))))))
 
 pub one-fresh : OneOutcome fresh.Kinds.ps fresh.Kinds.r fresh.Reads.Learnt
 one-fresh _ _ _ _ p q i = (record { looked = (p .0 ∙ sym (q .0)) i; verdict = (p .1 ∙ sym (q .1)) i; clean = (p .2 ∙ sym (q .2)) i }, tt)
+
+pub one-is-settled : OneOutcome is_settled.Kinds.ps is_settled.Kinds.r is_settled.Reads.Learnt
+one-is-settled _ _ _ _ = one-value (λ t. (t, (tt, (tt, tt))))
 
 -- What a batch remembers of the memory: how much of it is open.
 
