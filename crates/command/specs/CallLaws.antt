@@ -7,7 +7,7 @@ use Prim.Native.Nat.{ℕ, zero, suc, _+_, _-_, _≤_, _<_}
 use native.Mathlib.Omega.{arith}
 use lib.ListN.{List·getD-eq-default}
 use borrow.Author.Tests.{eq-eqb, ne-eqb, lt-ltb}
-use Rattle.link.specs.Words.{PREVIOUS}
+use Rattle.link.specs.Words.{NUMBER}
 use Rattle.moves.specs.declared.place.Place.the-variants.{Before}
 use Rattle.command.specs.Codes.{acceptable}
 use Rattle.command.specs.Calls.{placeTable, placeOf, wordTable, wordOf, callTable, callOf}
@@ -18,8 +18,8 @@ use Rattle.command.specs.declared.call.Change.the-variants.{Move, Value}
 pub place-past : (n : ℕ) → 3 ≤ n → placeOf n ≡ Before
 place-past n h = List·getD-eq-default placeTable Before h
 
-pub word-past : (n : ℕ) → 4 ≤ n → wordOf n ≡ PREVIOUS
-word-past n h = List·getD-eq-default wordTable PREVIOUS h
+pub word-past : (n : ℕ) → 5 ≤ n → wordOf n ≡ NUMBER
+word-past n h = List·getD-eq-default wordTable NUMBER h
 
 pub call-past : (code : ℕ) → 25 ≤ code → callOf code ≡ Validate
 call-past code h = List·getD-eq-default (Validate ∷ callTable) Validate h

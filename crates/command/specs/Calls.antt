@@ -17,12 +17,12 @@ placeTable = Append ∷ Prepend ∷ After ∷ []
 abbrev pub placeOf : ℕ → Place
 placeOf n = getD placeTable n Before
 
--- Parent, first child, last child, next, previous.
+-- Parent, first child, last child, next, previous; past these, the number.
 abbrev pub wordTable : List ℕ
-wordTable = PARENT ∷ FIRST ∷ LAST ∷ NEXT ∷ []
+wordTable = PARENT ∷ FIRST ∷ LAST ∷ NEXT ∷ PREVIOUS ∷ []
 
 abbrev pub wordOf : ℕ → ℕ
-wordOf n = getD wordTable n PREVIOUS
+wordOf n = getD wordTable n NUMBER
 
 -- Codes 1 to 24; a code that is none of these is refused COMMAND before it is looked up.
 abbrev pub callTable : List Call

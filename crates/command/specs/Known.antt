@@ -5,6 +5,7 @@ use mathlib.Core.List.{List}
 use Prim.Native.Nat.{ℕ, _*_, _≤_}
 use lib.Dec.{leb}
 use lib.ListN.{length}
+use Rattle.link.specs.Words.{capacityOf}
 use Rattle.link.specs.declared.header.Header.{Header}
 use Rattle.examine.specs.Scratch.{zeroed}
 use Rattle.examine.specs.Examination.{examined}
@@ -14,8 +15,9 @@ use Rattle.command.specs.declared.known.Known.{Known}
 use Rattle.command.specs.declared.command.Gate.{Gate}
 use Rattle.command.specs.declared.command.Done.{Done}
 
--- Where it has looked, the verdict is the memory's; and the first `clean` scratch words are zero.
+-- Where it has looked, the slots in use fit the memory, and the verdict is the memory's; and the first `clean` scratch words are zero.
 pub record Knows (m : List ℕ) (h : Header) (scratch : List ℕ) (k : Known) : Type 0 where
+  pub frame : k .looked ≡ true → h .used ≤ capacityOf (length m)
   pub verdict : k .looked ≡ true → k .verdict ≡ examined m h
   pub zeros : zeroed (k .clean) scratch ≡ scratch
   pub fits : k .clean ≤ length scratch

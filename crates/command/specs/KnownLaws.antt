@@ -2,12 +2,14 @@
 use mathlib.Core.Path.{_≡_, refl, sym, ap, _∙_, subst}
 use mathlib.Core.Bool.{Bool, true, false, cond, false≢true}
 use mathlib.Core.List.{List, _++_, append-assoc}
-use Prim.Native.Nat.{ℕ, _+_, _-_, _*_, _≤_}
+use Prim.Native.Nat.{ℕ, _+_, _-_, _*_, _/_, _≤_}
 use native.Mathlib.Omega.{arith}
-use lib.Dec.{leb}
+use lib.Dec.{ltb, leb}
 use lib.ListN.{length, replicate, drop, length-replicate, replicate-append-replicate}
 use lib.Seq.{drop-at, length-front, length-take-le}
-use borrow.Author.Tests.{leb-true}
+use borrow.Author.Tests.{ltb-true, ltb-false, leb-true}
+use Rattle.link.specs.Words.{width, most, capacityOf}
+use Rattle.link.specs.WordLaws.{capacity-whole, capacity-most}
 use Rattle.link.specs.declared.header.Header.{Header}
 use Rattle.examine.specs.Scratch.{zeroed}
 use Rattle.examine.specs.Examination.{examined}
@@ -54,13 +56,21 @@ cleaned-less n c s h z room = record {
 abbrev pub known : Bool → Verdict → ℕ → Known
 known looked verdict clean = record { looked = looked; verdict = verdict; clean = clean }
 
+-- what lies within the words lent fits the capacity
+pub fits-capacity : (lent used : ℕ) → used ≤ most → used * width ≤ lent → used ≤ capacityOf lent
+fits-capacity lent used a b = by (ltb (lent / width) most) refl
+  where
+    by : (t : Bool) → ltb (lent / width) most ≡ t → used ≤ capacityOf lent
+    by true e = let c = capacity-whole lent (ltb-true (lent / width) most e) in omega arith
+    by false e = let c = capacity-most lent (ltb-false (lent / width) most e) in omega arith
+
 -- known before: only the scratch is looked after
 pub looked-known : (m : List ℕ) (h : Header) (s : List ℕ) {s′ : List ℕ} {k : Known} {clean : ℕ} → Knows m h s k → k .looked ≡ true
     → Cleaned (2 * h .used) s s′ clean → Looked m h s s′ (known true (k .verdict) clean)
 looked-known m h s K e w = record {
   zero = w .zero;
   looked = refl;
-  knows = record { verdict = λ _. K .verdict e; zeros = w .zeros; fits = w .fits };
+  knows = record { frame = λ _. K .frame e; verdict = λ _. K .verdict e; zeros = w .zeros; fits = w .fits };
 }
 
 -- nothing is left to do
@@ -76,14 +86,28 @@ looked-still m h s {k} K e = by (k .looked) refl e
     }
     by false l t = absurd (false≢true t)
 
+-- and there is room for the scratch words
+pub settled-room : (k : Known) (s : List ℕ) (used : ℕ) → settled k used ≡ true → k .clean ≤ length s → (k .looked ≡ true) × (2 * used ≤ length s)
+unfolding settled
+settled-room k s used e l = by (k .looked) refl e
+  where
+    by : (b : Bool) → k .looked ≡ b → cond b (leb (2 * used) (k .clean)) false ≡ true → (k .looked ≡ true) × (2 * used ≤ length s)
+    by true q t = let a = leb-true (2 * used) (k .clean) t in (q, omega arith)
+    by false q t = absurd (false≢true t)
+
 -- examined now
-pub looked-now : (m : List ℕ) (h : Header) (s : List ℕ) {s′ : List ℕ} {v : Verdict} → 2 * h .used ≤ length s
+pub looked-now : (m : List ℕ) (h : Header) (s : List ℕ) {s′ : List ℕ} {v : Verdict} → h .used ≤ capacityOf (length m) → 2 * h .used ≤ length s
     → s′ ≡ zeroed (2 * h .used) s → v ≡ examined m h → Looked m h s s′ (known true v (2 * h .used))
-looked-now m h s room e f =
+looked-now m h s fits room e f =
     let w = cleaned-more (2 * h .used) s room e in
-    record { zero = e; looked = refl; knows = record { verdict = λ _. f; zeros = w .zeros; fits = w .fits } }
+    record { zero = e; looked = refl; knows = record { frame = λ _. fits; verdict = λ _. f; zeros = w .zeros; fits = w .fits } }
 
 -- nothing is known at first
 pub knows-nothing : (m : List ℕ) (h : Header) (s : List ℕ) {k : Known} → k .looked ≡ false → k .clean ≡ 0 → Knows m h s k
 unfolding zeroed
-knows-nothing m h s e f = record { verdict = λ q. absurd (false≢true (sym e ∙ q)); zeros = rw f refl; fits = rw f (omega arith) }
+knows-nothing m h s e f = record {
+  frame = λ q. absurd (false≢true (sym e ∙ q));
+  verdict = λ q. absurd (false≢true (sym e ∙ q));
+  zeros = rw f refl;
+  fits = rw f (omega arith);
+}

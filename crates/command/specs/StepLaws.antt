@@ -22,11 +22,13 @@ use Rattle.sound.specs.GuardLaws.{Fits, fit-done, capacity-fits, scratch-fits, 
 use Rattle.sound.specs.GuardedLaws.{guarded-done, guarded-refused, passed}
 use Rattle.arena.specs.Reads.{setNumber, cleared}
 use Rattle.keeps.specs.Clear.{clear-ready}
+use Rattle.keeps.specs.Set.{set-length}
 use Rattle.command.specs.Codes.{acceptable}
 use Rattle.command.specs.Calls.{callOf}
 use Rattle.command.specs.Commands.{Outcome, changed, keeping, called, commanded}
-use Rattle.command.specs.Known.{Knows, Looked, Gated, Did}
-use Rattle.command.specs.Ready.{changed-ready, set-examined}
+use Rattle.command.specs.Known.{Knows, Looked, Gated, Did, settled}
+use Rattle.command.specs.KnownLaws.{settled-room, looked-still}
+use Rattle.command.specs.Ready.{Stays, changed-stays, set-examined}
 use Rattle.command.specs.declared.call.Change.{Change}
 use Rattle.command.specs.declared.known.Known.{Known}
 use Rattle.command.specs.declared.command.Command.{Command}
@@ -50,6 +52,7 @@ ready-verdict m h R = told (examined m h) (examined-ready m h .1 R)
 pub knows-fresh : (m s : List ℕ) {k : Known} → (k .looked ≡ true) × (k .verdict ≡ Is.Ready) × (k .clean ≡ 0) → Knows m cleared s k
 unfolding zeroed
 knows-fresh m s (l, v, z) = record {
+  frame = λ _. omega arith;
   verdict = λ _. v ∙ sym (ready-verdict m cleared (clear-ready m));
   zeros = rw z refl;
   fits = rw z (omega arith);
@@ -64,12 +67,12 @@ module _ (m : List ℕ) (h : Header) (s : List ℕ) {no : ℕ} (e : no ≡ fitNo
       → (h .used ≤ 65535) × (h .used * width ≤ length m) × (2 * h .used ≤ length s) × Knows m h s k
   fit-look d K = let (a, b) = capacity-fits (length m) (h .used) (fits d .frame) in (a, b, fits d .room, K)
 
-  pub gated-fit : {s′ : List ℕ} {k : Known} {number : ℕ} → no ≡ DONE → Looked m h s s′ k → number ≡ readyNo (k .verdict)
-      → Gated m h s s′ (gate number k)
-  gated-fit d L n = record {
+  pub gated-fit : {s′ : List ℕ} {k : Known} {g : Gate} → no ≡ DONE → Looked m h s s′ k → (g .number ≡ readyNo (k .verdict)) × (g .known ≡ k)
+      → Gated m h s s′ g
+  gated-fit d L (n, q) = record {
     scratch = L .zero ∙ sym (scratch-fits m h s (fits d));
     number = n ∙ ap readyNo (L .knows .verdict (L .looked)) ∙ sym (guard-fits m h (length s) (fits d));
-    knows = L .knows;
+    knows = rw q (L .knows);
   }
 
   pub gated-unfit : {k : Known} → (no ≡ DONE → ⊥) → Knows m h s k → Gated m h s s (gate no k)
@@ -78,6 +81,14 @@ module _ (m : List ℕ) (h : Header) (s : List ℕ) {no : ℕ} (e : no ≡ fitNo
     number = e ∙ sym (guard-unfit m h (length s) (λ q. n (e ∙ q)));
     knows = K;
   }
+
+-- where a look would find nothing to do, memory fits and the guard goes by the verdict
+pub gated-settled : (m : List ℕ) (h : Header) (s : List ℕ) {k : Known} {g : Gate} → Knows m h s k → settled k (h .used) ≡ true
+    → (g .number ≡ readyNo (k .verdict)) × (g .known ≡ k) → Gated m h s s g
+gated-settled m h s {k} K e n =
+    let (l, r) = settled-room k s (h .used) e (K .fits) in
+    let f : Fits (length m) (h .used) (length s) = record { frame = K .frame l; room = r } in
+    gated-fit m h s refl (fit-done (length m) (h .used) (length s) .1 f) (looked-still m h s K e) n
 
 -- what the guard let through is ready and fits
 pub gated-ready : (m : List ℕ) (h : Header) (s : List ℕ) {s′ : List ℕ} {g : Gate} → Gated m h s s′ g → g .number ≡ DONE
@@ -104,6 +115,7 @@ module _ (m : List ℕ) (h : Header) (s : List ℕ) {d : Done} where
   did-set {m′} {k} id v e K (p, q) = record {
     same = ap (λ (a : Answer). (m′, s, a)) p ∙ ap (λ (w : List ℕ × Reply). (w .0, s, keeping h (w .1))) e;
     knows = rw (p, q) (record {
+      frame = λ l. rw (ap (λ (w : List ℕ × Reply). length (w .0)) e ∙ set-length m h id v) (K .frame l);
       verdict = λ l. K .verdict l ∙ sym (ap (λ (w : List ℕ × Reply). examined (w .0) h) e ∙ set-examined m h id v);
       zeros = K .zeros;
       fits = K .fits;
@@ -124,6 +136,7 @@ pub did-made : (m : List ℕ) (h : Header) (s : List ℕ) {m′ s′ : List ℕ}
 did-made m h s {m′} {s′} {g} {r} change a b G n e = record {
   same = guarded-done m h s (G .scratch) (G .number) n e;
   knows = record {
+    frame = λ _. rw (ap (λ (p : List ℕ × Answer). p .0) e, ap (λ (p : List ℕ × Answer). p .1) e) (stays .fits);
     verdict = λ l. G .knows .verdict l ∙ ready-verdict m h (was .0) ∙ sym (ready-verdict m′ (r .header) now-ready);
     zeros = G .knows .zeros;
     fits = G .knows .fits;
@@ -133,8 +146,11 @@ did-made m h s {m′} {s′} {g} {r} change a b G n e = record {
     was : Ready m h × (h .used ≤ capacityOf (length m))
     was = gated-ready m h s G n
 
+    stays : Stays m (changed change a b m h)
+    stays = changed-stays m h (was .0) (was .1) change a b
+
     now-ready : Ready m′ (r .header)
-    now-ready = rw (ap (λ (p : List ℕ × Answer). p .0) e, ap (λ (p : List ℕ × Answer). p .1) e) (changed-ready change a b m h (was .0) (was .1))
+    now-ready = rw (ap (λ (p : List ℕ × Answer). p .0) e, ap (λ (p : List ℕ × Answer). p .1) e) (stays .ready)
 
 -- COMMAND first
 module _ (c : Command) (m : List ℕ) (h : Header) (s : List ℕ) where

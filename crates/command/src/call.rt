@@ -39,7 +39,7 @@ fn place_of(n: u8) -> Place
     }
 }
 
-// The word that the n-th of the five link reads gives.
+// The word that the n-th of the five link reads gives; past these, the number.
 fn word_of(n: u8) -> u32
     ensures { λ r. ⌜ r ≡ wordOf n ⌝ }
 {
@@ -48,7 +48,8 @@ fn word_of(n: u8) -> u32
         1 => Slot::FIRST,
         2 => Slot::LAST,
         3 => Slot::NEXT,
-        _ => Slot::PREVIOUS,
+        4 => Slot::PREVIOUS,
+        _ => Slot::NUMBER,
     }
 }
 

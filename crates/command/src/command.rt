@@ -22,6 +22,7 @@ use sound::ready_number;
 use sound::sound_result;
 ghost use mathlib.Core.Path.{_≡_};
 ghost use Rattle.rules.specs.Answers.{answer};
+ghost use Rattle.sound.specs.Guard.{readyNo};
 ghost use Rattle.command.specs.Codes.{argumentTable};
 ghost use Rattle.command.specs.Commands.{keeping, called, commanded};
 ghost use Rattle.command.specs.Known.{Knows, Gated, Did};
@@ -66,26 +67,29 @@ fn refuse(h: Header, number: u32, known: Known) -> Done
     keep(h, r, known)
 }
 
-// The guard of every call that needs ready memory; it examines only where nothing is known.
+// What the guard says of memory that fits, by the verdict.
+fn by_verdict(known: Known) -> Gate
+    ensures { λ g. ⌜ (g .number ≡ readyNo (known .verdict)) × (g .known ≡ known) ⌝ }
+{
+    let verdict = known.verdict;
+    Gate {
+        number: ready_number(verdict),
+        known,
+    }
+}
+
+// The guard of every call that needs ready memory; it tests nothing where that is settled, and examines only where nothing is known.
 fn pass(words: &[u32], h: Header, scratch: &mut [u32], known: Known) -> Gate
     requires { ⌜ Knows (now words) h (now scratch) known ⌝ }
     ensures { λ r. ⌜ Gated (now (words .entry)) h (now (scratch .entry)) (now (scratch .exit)) r ⌝ }
 {
+    if is_settled(known, h.used) {
+        return by_verdict(known);
+    }
     let number = fit(words, h.used, scratch);
     if number == Number::DONE {
-        if is_settled(known, h.used) {
-            let verdict = known.verdict;
-            return Gate {
-                number: ready_number(verdict),
-                known,
-            };
-        }
         let after = look(words, h, scratch, known);
-        let verdict = after.verdict;
-        return Gate {
-            number: ready_number(verdict),
-            known: after,
-        };
+        return by_verdict(after);
     }
     Gate { number, known }
 }

@@ -3,13 +3,13 @@ use crate::call::Change;
 use arena::arena::create;
 use link::header::Header;
 use moves::detach::detach_children_node;
-use moves::detach::detach_node;
-use moves::id::move_node;
-use moves::value::value_node;
 use removal::removal::remove_children_found;
-use removal::removal::remove_found;
-use removal::removal::remove_subtree_found;
 use rules::answer::Answer;
+use splice::work::detach_ready;
+use splice::work::move_ready;
+use splice::work::remove_ready;
+use splice::work::remove_subtree_ready;
+use splice::work::value_ready;
 ghost use mathlib.Core.Path.{_≡_};
 ghost use Prim.Native.Nat.{_≤_};
 ghost use lib.ListN.{length};
@@ -23,12 +23,12 @@ pub fn work(words: &mut [u32], h: Header, change: Change, a: u32, b: u32) -> Ans
 {
     match change {
         Change::New => create(words, h, a),
-        Change::Move(place) => move_node(words, h, place, a, b),
-        Change::Detach => detach_node(words, h, a),
+        Change::Move(place) => move_ready(words, h, place, a, b),
+        Change::Detach => detach_ready(words, h, a),
         Change::DetachChildren => detach_children_node(words, h, a),
-        Change::Remove => remove_found(words, h, a),
-        Change::RemoveSubtree => remove_subtree_found(words, h, a),
+        Change::Remove => remove_ready(words, h, a),
+        Change::RemoveSubtree => remove_subtree_ready(words, h, a),
         Change::RemoveChildren => remove_children_found(words, h, a),
-        Change::Value(place) => value_node(words, h, place, a, b),
+        Change::Value(place) => value_ready(words, h, place, a, b),
     }
 }

@@ -12,6 +12,7 @@ pub mod Sound
 pub mod Arena
 pub mod Moves
 pub mod Removal
+pub mod Splice
 pub mod Walk
 pub mod Lists
 pub mod Subtree

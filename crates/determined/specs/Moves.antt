@@ -15,6 +15,7 @@ use Rattle.moves.proofs.detach.detach
 use Rattle.moves.proofs.detach.detach_children
 use Rattle.moves.proofs.detach.detach_node
 use Rattle.moves.proofs.detach.detach_children_node
+use Rattle.moves.proofs.id.move_number
 use Rattle.moves.proofs.id.move_words
 use Rattle.moves.proofs.id.move_node
 use Rattle.moves.proofs.place.Place.spot
@@ -62,6 +63,9 @@ one-detach-node _ _ _ _ = one-value (λ t. (t .1, (t .0, (tt, (tt, tt)))))
 
 pub one-detach-children-node : OneOutcome detach_children_node.Kinds.ps detach_children_node.Kinds.r detach_children_node.Reads.Learnt
 one-detach-children-node _ _ _ _ = one-value (λ t. (t .1, (t .0, (tt, (tt, tt)))))
+
+pub one-move-number : OneOutcome move_number.Kinds.ps move_number.Kinds.r move_number.Reads.Learnt
+one-move-number _ _ _ _ = one-value (λ t. (t, (tt, (tt, (tt, (tt, tt))))))
 
 pub one-move-words : OneOutcome move_words.Kinds.ps move_words.Kinds.r move_words.Reads.Learnt
 one-move-words _ _ _ _ = one-value (λ t. (tt, (t, (tt, (tt, (tt, (tt, tt)))))))

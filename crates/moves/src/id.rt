@@ -43,7 +43,7 @@ fn is_ancestor_or_self_of(words: &[u32], id: u32, other: u32, steps: u32) -> boo
 }
 
 // The number of a move: SELF, REMOVED, ANCESTOR, else DONE.
-fn move_number(words: &[u32], h: Header, target: u32, moved: u32) -> u32
+pub fn move_number(words: &[u32], h: Header, target: u32, moved: u32) -> u32
     requires { ⌜ h .used ≤ most ⌝ }
     ensures { λ r. ⌜ r ≡ moveNo (now (words .entry)) h target moved ⌝ }
 {

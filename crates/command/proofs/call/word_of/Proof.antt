@@ -19,7 +19,10 @@ returns-4 : tie.Need-returns-4
 returns-4 c = search needs
 
 returns-5 : tie.Need-returns-5
-returns-5 c = sym (word-past (c .before .args .n) (omega arith))
+returns-5 c = search needs
+
+returns-6 : tie.Need-returns-6
+returns-6 c = sym (word-past (c .before .args .n) (omega arith))
 
 pub word-of-spec : {M : Type 1} → statement M
-word-of-spec = tie.close (tie.spec returns returns-2 returns-3 returns-4 returns-5)
+word-of-spec = tie.close (tie.spec returns returns-2 returns-3 returns-4 returns-5 returns-6)

@@ -19,14 +19,14 @@ create-requires c κs = search needs
 enum-known-change : tie.Need-enum-known-change
 enum-known-change c = search needs
 
-move-node-requires : tie.Need-move-node-requires
-move-node-requires c κs = let a = c .before .before .before .before .before .args in capacity-fits (length (now (a .words))) (a .h .used) (c .before .before .before .before .before .pre .1) .0
+move-ready-requires : tie.Need-move-ready-requires
+move-ready-requires c κs = search needs
 
 enum-told-2 : tie.Need-enum-told-2
 enum-told-2 c = search needs
 
-detach-node-requires : tie.Need-detach-node-requires
-detach-node-requires c κs = search needs
+detach-ready-requires : tie.Need-detach-ready-requires
+detach-ready-requires c κs = search needs
 
 enum-told-3 : tie.Need-enum-told-3
 enum-told-3 c = search needs
@@ -37,14 +37,14 @@ detach-children-node-requires c κs = let a = c .before .before .before .before 
 enum-told-4 : tie.Need-enum-told-4
 enum-told-4 c = search needs
 
-remove-found-requires : tie.Need-remove-found-requires
-remove-found-requires c κs = let a = c .before .before .before .before .args in (c .before .before .before .before .pre .1, last-used (now (a .words)) (a .h) (c .before .before .before .before .pre .0))
+remove-ready-requires : tie.Need-remove-ready-requires
+remove-ready-requires c κs = search needs
 
 enum-told-5 : tie.Need-enum-told-5
 enum-told-5 c = search needs
 
-remove-subtree-found-requires : tie.Need-remove-subtree-found-requires
-remove-subtree-found-requires c κs = let a = c .before .before .before .before .args in (c .before .before .before .before .pre .1, last-used (now (a .words)) (a .h) (c .before .before .before .before .pre .0))
+remove-subtree-ready-requires : tie.Need-remove-subtree-ready-requires
+remove-subtree-ready-requires c κs = search needs
 
 enum-told-6 : tie.Need-enum-told-6
 enum-told-6 c = search needs
@@ -55,8 +55,8 @@ remove-children-found-requires c κs = let a = c .before .before .before .before
 enum-known-change-2 : tie.Need-enum-known-change-2
 enum-known-change-2 c = search needs
 
-value-node-requires : tie.Need-value-node-requires
-value-node-requires c κs = search needs
+value-ready-requires : tie.Need-value-ready-requires
+value-ready-requires c κs = search needs
 
 same-length : tie.Need-same-length
 same-length c = search needs
@@ -72,7 +72,7 @@ same-length-2 c = search needs
 returns-2 : tie.Need-returns-2
 returns-2 c =
     let a = c .before .before .before .before .before .before .before .before .args in
-    c .before .before .move-node .ensures ∙ ap (λ (x : Change). changed x (a .a) (a .b) (now (a .words)) (a .h)) (sym (c .before .before .before .before .before .change .given .1))
+    c .before .before .move-ready .ensures ∙ ap (λ (x : Change). changed x (a .a) (a .b) (now (a .words)) (a .h)) (sym (c .before .before .before .before .before .change .given .1))
 
 same-length-3 : tie.Need-same-length-3
 same-length-3 c = search needs
@@ -80,7 +80,7 @@ same-length-3 c = search needs
 returns-3 : tie.Need-returns-3
 returns-3 c =
     let a = c .before .before .before .before .before .before .before .args in
-    c .before .before .detach-node .ensures ∙ ap (λ (x : Change). changed x (a .a) (a .b) (now (a .words)) (a .h)) (sym (c .before .before .before .before .enum-told2 .given .1))
+    c .before .before .detach-ready .ensures ∙ ap (λ (x : Change). changed x (a .a) (a .b) (now (a .words)) (a .h)) (sym (c .before .before .before .before .enum-told2 .given .1))
 
 same-length-4 : tie.Need-same-length-4
 same-length-4 c = search needs
@@ -96,7 +96,7 @@ same-length-5 c = search needs
 returns-5 : tie.Need-returns-5
 returns-5 c =
     let a = c .before .before .before .before .before .before .before .args in
-    c .before .before .remove-found .ensures ∙ ap (λ (x : Change). changed x (a .a) (a .b) (now (a .words)) (a .h)) (sym (c .before .before .before .before .enum-told4 .given .1))
+    c .before .before .remove-ready .ensures ∙ ap (λ (x : Change). changed x (a .a) (a .b) (now (a .words)) (a .h)) (sym (c .before .before .before .before .enum-told4 .given .1))
 
 same-length-6 : tie.Need-same-length-6
 same-length-6 c = search needs
@@ -104,7 +104,7 @@ same-length-6 c = search needs
 returns-6 : tie.Need-returns-6
 returns-6 c =
     let a = c .before .before .before .before .before .before .before .args in
-    c .before .before .remove-subtree-found .ensures ∙ ap (λ (x : Change). changed x (a .a) (a .b) (now (a .words)) (a .h)) (sym (c .before .before .before .before .enum-told5 .given .1))
+    c .before .before .remove-subtree-ready .ensures ∙ ap (λ (x : Change). changed x (a .a) (a .b) (now (a .words)) (a .h)) (sym (c .before .before .before .before .enum-told5 .given .1))
 
 same-length-7 : tie.Need-same-length-7
 same-length-7 c = search needs
@@ -120,7 +120,7 @@ same-length-8 c = search needs
 returns-8 : tie.Need-returns-8
 returns-8 c =
     let a = c .before .before .before .before .before .before .before .before .args in
-    c .before .before .value-node .ensures ∙ ap (λ (x : Change). changed x (a .a) (a .b) (now (a .words)) (a .h)) (sym (c .before .before .before .before .before .change2 .given .1))
+    c .before .before .value-ready .ensures ∙ ap (λ (x : Change). changed x (a .a) (a .b) (now (a .words)) (a .h)) (sym (c .before .before .before .before .before .change2 .given .1))
 
 pub work-spec : {M : Type 1} → statement M
 work-spec =
@@ -129,19 +129,19 @@ work-spec =
     enum-told
     create-requires
     enum-known-change
-    move-node-requires
+    move-ready-requires
     enum-told-2
-    detach-node-requires
+    detach-ready-requires
     enum-told-3
     detach-children-node-requires
     enum-told-4
-    remove-found-requires
+    remove-ready-requires
     enum-told-5
-    remove-subtree-found-requires
+    remove-subtree-ready-requires
     enum-told-6
     remove-children-found-requires
     enum-known-change-2
-    value-node-requires
+    value-ready-requires
     same-length
     returns
     same-length-2
