@@ -6,7 +6,8 @@ use mathlib.Core.Path.{_≡_}
 use mathlib.Core.List.{List}
 use Prim.Native.Nat.{ℕ}
 use lib.Dec.{eqb}
-use Rattle.link.specs.Siblings.{detachRange, rewriteParents}
+use Rattle.link.specs.Words.{FIRST, LAST, setLink}
+use Rattle.link.specs.Siblings.{rewriteParents}
 use Rattle.link.specs.declared.siblings_range.Placed.{Placed}
 use Rattle.link.specs.declared.siblings_range.Placed.the-variants.{Done, SiblingsLoop, ParentChildLoop, OutOfSteps}
 use Rattle.splice.specs.Splice.{Within, tiedIn}
@@ -21,7 +22,11 @@ tied SiblingsLoop m first last parent previous next = m
 tied ParentChildLoop m first last parent previous next = m
 tied OutOfSteps m first last parent previous next = m
 
-unfoldable pub hoistedIn : ℕ → List ℕ → ℕ → ℕ → ℕ → ℕ → ℕ → List ℕ
-hoistedIn steps m first last parent previous next =
+-- The node x has no children any more.
+abbrev pub childless : List ℕ → ℕ → List ℕ
+childless m x = setLink (setLink m x FIRST 0) x LAST 0
+
+unfoldable pub hoistedIn : ℕ → List ℕ → ℕ → ℕ → ℕ → ℕ → ℕ → ℕ → List ℕ
+hoistedIn steps m x first last parent previous next =
     cond (eqb first 0) m
-    (let r = rewriteParents steps (detachRange m first last) first parent in tied (r .1) (r .0) first last parent previous next)
+    (let r = rewriteParents steps (childless m x) first parent in tied (r .1) (r .0) first last parent previous next)

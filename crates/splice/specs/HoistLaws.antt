@@ -1,24 +1,48 @@
 -- What the calls that put a node's children to where it stood ask for and come to.
 -- Assumed of the memory is only that the ends named lie within it.
-use mathlib.Core.Path.{_≡_, ap, _∙_}
+use mathlib.Core.Path.{_≡_, sym, ap, _∙_}
 use mathlib.Core.Logic.{⊎-elim}
 use mathlib.Core.List.{List}
-use Prim.Native.Nat.{ℕ}
+use Prim.Native.Nat.{ℕ, _*_, _<_, _≤_}
+use native.Mathlib.Omega.{arith}
 use lib.ListN.{length}
 use borrow.Author.Tests.{ne-eqb}
-use Rattle.link.specs.Siblings.{detachRange, rewriteParents}
-use Rattle.link.specs.OnlyLaws.{only-detach, only-rewrite}
+use Rattle.link.specs.Ids.{slotOf}
+use Rattle.link.specs.Words.{width, FIRST, LAST, setWord, setLink}
+use Rattle.link.specs.WordLaws.{setLink-some, length-setLink}
+use Rattle.link.specs.Siblings.{rewriteParents}
+use Rattle.link.specs.OnlyLaws.{only-rewrite}
 use Rattle.link.specs.declared.siblings_range.Placed.{Placed}
 use Rattle.splice.specs.Splice.{Within, NoneOrWithin}
 use Rattle.splice.specs.SpliceLaws.{within-stays, none-or-within-stays}
-use Rattle.splice.specs.Hoist.{Ends, tied, hoistedIn}
+use Rattle.splice.specs.Hoist.{Ends, childless, tied, hoistedIn}
 
-module _ (steps : ℕ) (m : List ℕ) (first last parent previous next : ℕ) (n : first ≡ 0 → ⊥) {m₁ m₂ : List ℕ} {said : Placed} {head : ℕ}
-    (out : m₁ ≡ detachRange m first last) (start : head ≡ first) (named : (m₂, said) ≡ rewriteParents steps m₁ head parent) where
+-- The writes of none to a node's two ends.
+module _ (m : List ℕ) (x : ℕ) {s : ℕ} (e : s ≡ slotOf x) where
+  pub front-asks : Within m x → (0 < s) × (s * width ≤ length m) × (FIRST < width)
+  front-asks w = rw e (w .0, w .1, omega arith)
+
+  module _ (w : Within m x) {m₁ : List ℕ} (front : m₁ ≡ setWord m s FIRST 0) where
+    front-link : m₁ ≡ setLink m x FIRST 0
+    front-link = front ∙ ap (λ (t : ℕ). setWord m t FIRST 0) e ∙ sym (setLink-some m x FIRST 0 (w .0))
+
+    front-within : Within m₁ x
+    front-within = within-stays x (ap length front-link ∙ length-setLink m x FIRST 0) w
+
+    pub back-asks : (0 < s) × (s * width ≤ length m₁) × (LAST < width)
+    back-asks = rw e (front-within .0, front-within .1, omega arith)
+
+    pub ends-by : {m₂ : List ℕ} → m₂ ≡ setWord m₁ s LAST 0 → m₂ ≡ childless m x
+    ends-by back =
+        back ∙ ap (λ (t : ℕ). setWord m₁ t LAST 0) e ∙ sym (setLink-some m₁ x LAST 0 (w .0))
+        ∙ ap (λ (l : List ℕ). setLink l x LAST 0) front-link
+
+module _ (steps : ℕ) (m : List ℕ) (x first last parent previous next : ℕ) (n : first ≡ 0 → ⊥) {m₁ m₂ : List ℕ} {said : Placed}
+    (out : m₁ ≡ childless m x) (named : (m₂, said) ≡ rewriteParents steps m₁ first parent) where
   size : length m₂ ≡ length m
   size =
-      ap (λ (r : List ℕ × Placed). length (r .0)) named ∙ only-rewrite steps m₁ head parent .size ∙ ap length out
-      ∙ only-detach m first last .size
+      ap (λ (r : List ℕ × Placed). length (r .0)) named ∙ only-rewrite steps m₁ first parent .size ∙ ap length out
+      ∙ length-setLink (setLink m x FIRST 0) x LAST 0 ∙ length-setLink m x FIRST 0
 
   -- The ends and what is around them are within the memory still.
   pub tie-asks : Ends m first last → NoneOrWithin m parent → NoneOrWithin m previous → NoneOrWithin m next
@@ -33,9 +57,9 @@ module _ (steps : ℕ) (m : List ℕ) (first last parent previous next : ℕ) (n
       )
 
   pub hoisted-in-by : {m₃ : List ℕ} → m₃ ≡ tied said m₂ first last parent previous next
-      → m₃ ≡ hoistedIn steps m first last parent previous next
+      → m₃ ≡ hoistedIn steps m x first last parent previous next
   unfolding hoistedIn
   hoisted-in-by g =
       simp (ne-eqb first 0 n)
       (g ∙ ap (λ (r : List ℕ × Placed). tied (r .1) (r .0) first last parent previous next)
-      (named ∙ ap (λ (x : ℕ). rewriteParents steps m₁ x parent) start ∙ ap (λ (w : List ℕ). rewriteParents steps w first parent) out))
+      (named ∙ ap (λ (w : List ℕ). rewriteParents steps w first parent) out))

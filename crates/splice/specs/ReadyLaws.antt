@@ -8,6 +8,7 @@ use lib.ListN.{length}
 use Rattle.link.specs.Ids.{slotOf}
 use Rattle.link.specs.Words.{width, PARENT, PREVIOUS, NEXT, FIRST, LAST, capacityOf, link}
 use Rattle.link.specs.WordLaws.{link-some}
+use Rattle.link.specs.Siblings.{detachRange}
 use Rattle.link.specs.Found.{Found}
 use Rattle.link.specs.declared.header.Header.{Header}
 use Rattle.rules.specs.Answers.{DONE}
@@ -31,7 +32,7 @@ use Rattle.removal.specs.Remove as model
 use Rattle.removal.specs.Remove.{stepsFor}
 use Rattle.removed.specs.Alone.{detached-words, alone-room, alone-ready}
 use Rattle.splice.specs.Splice.{Within, NoneOrWithin, takenOut, putIn}
-use Rattle.splice.specs.Hoist.{Ends, hoistedIn}
+use Rattle.splice.specs.Hoist.{Ends, childless, hoistedIn}
 use Rattle.splice.specs.Connects.{out-words}
 use Rattle.splice.specs.Around.{
   inside,
@@ -47,8 +48,8 @@ use Rattle.splice.specs.Around.{
   parent-last,
 }
 use Rattle.splice.specs.Landing.{Lone, landing, lands, inserts, puts-new}
-use Rattle.splice.specs.Taken.{taken-found, taken-alone, taken-parent, taken-first, taken-last}
-use Rattle.splice.specs.HoistWords.{hoist-words}
+use Rattle.splice.specs.Taken.{taken-found, taken-alone, taken-parent, taken-first, taken-last, taken-kids}
+use Rattle.splice.specs.HoistWords.{range-out, hoist-words}
 
 -- A place's neighbours and parent are none or within the memory.
 pub record SpotWithin (m : List ℕ) (place : Place) (t : ℕ) : Type 0 where
@@ -201,6 +202,9 @@ module _ (m : List ℕ) (h : Header) (fits : h .used ≤ capacityOf (length m)) 
         subst (λ (w : List ℕ). Within w y) (sym (taken-words x f))
         (inside (detachWords m x) (h .used) (alone-room m h room R x f) y (taken-found m h room R x f y l))
 
+    pub hoist-node : Within (takenOut m x) x
+    hoist-node = hoist-within x f
+
     pub hoist-ends : Ends (takenOut m x) (link m x FIRST) (link m x LAST)
     hoist-ends = go (link-live m h (R .sound) x f fst)
       where
@@ -229,12 +233,18 @@ module _ (m : List ℕ) (h : Header) (fits : h .used ≤ capacityOf (length m)) 
           parent-other m h (R .sound) x f
           (sym (R .sound .links .share x f n) ∙ ap (λ (y : ℕ). link m y PARENT) e ∙ first-parent m h (R .sound) x f some)
 
-    pub hoisted-in : hoistedIn (stepsFor (h .used)) (takenOut m x) (link m x FIRST) (link m x LAST) (link m x PARENT) (link m x PREVIOUS) (link m x NEXT)
+    -- the children leave the node, which is in no one's way by then
+    leave : link m x FIRST ≢ 0 → detachRange (detachWords m x) (link m x FIRST) (link m x LAST) ≡ childless (detachWords m x) x
+    leave some =
+        let k = taken-kids m h room R x f some in
+        range-out (detachWords m x) x (link m x FIRST) (link m x LAST) (child-parent some) (k .0) (k .1)
+
+    pub hoisted-in : hoistedIn (stepsFor (h .used)) (takenOut m x) x (link m x FIRST) (link m x LAST) (link m x PARENT) (link m x PREVIOUS) (link m x NEXT)
         ≡ model.hoisted (stepsFor (h .used)) (takenOut m x) (link m x FIRST) (link m x LAST) (link m x PARENT) (link m x PREVIOUS) (link m x NEXT)
     hoisted-in =
-        subst (λ (w : List ℕ). hoistedIn (stepsFor (h .used)) w (link m x FIRST) (link m x LAST) (link m x PARENT) (link m x PREVIOUS) (link m x NEXT)
+        subst (λ (w : List ℕ). hoistedIn (stepsFor (h .used)) w x (link m x FIRST) (link m x LAST) (link m x PARENT) (link m x PREVIOUS) (link m x NEXT)
         ≡ model.hoisted (stepsFor (h .used)) w (link m x FIRST) (link m x LAST) (link m x PARENT) (link m x PREVIOUS) (link m x NEXT)) (sym (taken-words x f))
-        (hoist-words (stepsFor (h .used)) (detachWords m x) (link m x FIRST) (link m x LAST) (link m x PARENT) (link m x PREVIOUS) (link m x NEXT)
+        (hoist-words (stepsFor (h .used)) (detachWords m x) x (link m x FIRST) (link m x LAST) (link m x PARENT) (link m x PREVIOUS) (link m x NEXT) leave
         (λ n. inside (detachWords m x) (h .used) (alone-room m h room R x f) (link m x PARENT)
         (taken-found m h room R x f (link m x PARENT) (R .sound .links .found x f par n)))
         (taken-first m h room R x f) (taken-last m h room R x f) (last-too m h (R .sound) x f)

@@ -41,6 +41,7 @@ use Rattle.splice.specs.ReadyLaws.{
   new-node,
   new-spot,
   new-words,
+  hoist-node,
   hoist-ends,
   hoist-around,
   hoisted-in,
@@ -135,11 +136,11 @@ module _ (m : List ℕ) (h : Header) (fits : h .used ≤ capacityOf (length m)) 
   -- The children of a node that is taken out, by the links read before.
   module _ (x : ℕ) (f : Found m (h .used) x) {m₁ : List ℕ} {parent previous next first last : ℕ} (out : m₁ ≡ takenOut m x)
       (L : LinksRead m x parent previous next first last) where
-    pub hoist-asks : Ends m₁ first last × NoneOrWithin m₁ parent × NoneOrWithin m₁ previous × NoneOrWithin m₁ next
+    pub hoist-asks : Within m₁ x × Ends m₁ first last × NoneOrWithin m₁ parent × NoneOrWithin m₁ previous × NoneOrWithin m₁ next
     hoist-asks =
-        rw (out, L .up, L .left, L .right, L .start, L .end) (hoist-ends m h fits R x f, hoist-around m h fits R x f par, hoist-around m h fits R x f prv, hoist-around m h fits R x f nxt)
+        rw (out, L .up, L .left, L .right, L .start, L .end) (hoist-node m h fits R x f, hoist-ends m h fits R x f, hoist-around m h fits R x f par, hoist-around m h fits R x f prv, hoist-around m h fits R x f nxt)
 
-    pub hoisted-by : {m₂ : List ℕ} → m₂ ≡ hoistedIn (stepsFor (h .used)) m₁ first last parent previous next
+    pub hoisted-by : {m₂ : List ℕ} → m₂ ≡ hoistedIn (stepsFor (h .used)) m₁ x first last parent previous next
         → m₂ ≡ hoisted (stepsFor (h .used)) m₁ first last parent previous next
     hoisted-by g =
         let is = hoisted-in m h fits R x f in

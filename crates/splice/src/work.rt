@@ -8,10 +8,11 @@ use arena::arena::free_node;
 use link::header::Header;
 use link::id::found;
 use link::id::slot_of;
+use link::siblings_range::DetachedSiblingsRange;
 use link::siblings_range::Placed;
-use link::siblings_range::SiblingsRange;
 use link::words::Slot;
 use link::words::get_word;
+use link::words::set_word;
 use moves::id::move_number;
 use moves::place::Place;
 use removal::id::remove_descendants;
@@ -119,6 +120,7 @@ fn tie_if_done(
 // The children of a node that is taken out already, from first to last, come to where it stood.
 fn hoist(
     words: &mut [u32],
+    id: u32,
     first: u32,
     last: u32,
     parent: u32,
@@ -126,14 +128,16 @@ fn hoist(
     next: u32,
     steps: u32,
 )
-    requires { ⌜ Ends (now words) first last × NoneOrWithin (now words) parent × NoneOrWithin (now words) previous × NoneOrWithin (now words) next ⌝ }
-    ensures { λ _. ⌜ now (words .exit) ≡ hoistedIn steps (now (words .entry)) first last parent previous next ⌝ }
+    requires { ⌜ Within (now words) id × Ends (now words) first last × NoneOrWithin (now words) parent × NoneOrWithin (now words) previous × NoneOrWithin (now words) next ⌝ }
+    ensures { λ _. ⌜ now (words .exit) ≡ hoistedIn steps (now (words .entry)) id first last parent previous next ⌝ }
 {
     if first == 0 {
         return;
     }
-    let range = SiblingsRange { first, last };
-    let children = range.detach_from_siblings(words);
+    let slot = slot_of(id);
+    set_word(words, slot, Slot::FIRST, 0);
+    set_word(words, slot, Slot::LAST, 0);
+    let children = DetachedSiblingsRange { first, last };
     let said = children.rewrite_parents(words, parent, steps);
     tie_if_done(words, said, first, last, parent, previous, next);
 }
@@ -150,7 +154,7 @@ pub fn remove_ready(words: &mut [u32], h: Header, id: u32) -> Answer
         let first = get_word(words, slot, Slot::FIRST);
         let last = get_word(words, slot, Slot::LAST);
         take_out(words, id);
-        hoist(words, first, last, parent, previous, next, h.used + 1);
+        hoist(words, id, first, last, parent, previous, next, h.used + 1);
         let header = free_node(words, h, id);
         return Answer {
             header,
