@@ -12,11 +12,16 @@ use Rattle.lists.proofs.calls.breadth_first
 use Rattle.lists.proofs.calls.descendant_count
 use Rattle.lists.proofs.levels.list_levels
 use Rattle.lists.proofs.lists.count_listed
+use Rattle.lists.proofs.lists.write_along
 use Rattle.lists.proofs.lists.write_listed
 use Rattle.lists.proofs.lists.list_nodes
 use Rattle.lists.proofs.lists.count_nodes
 use Rattle.lists.proofs.order.first_of
-use Rattle.lists.proofs.order.step_of
+use Rattle.lists.proofs.order.next_descendant
+use Rattle.lists.proofs.order.goes_down
+use Rattle.lists.proofs.order.near_link
+use Rattle.lists.proofs.order.far_link
+use Rattle.lists.proofs.order.link_else
 use Rattle.lists.proofs.order.keeps
 
 pub one-descendants : OneOutcome descendants.Kinds.ps descendants.Kinds.r descendants.Reads.Learnt
@@ -52,6 +57,9 @@ one-list-levels _ _ _ _ = one-value (λ t. (t .1, (tt, (tt, (tt, (t .0, tt))))))
 pub one-count-listed : OneOutcome count_listed.Kinds.ps count_listed.Kinds.r count_listed.Reads.Learnt
 one-count-listed _ _ _ _ = one-value (λ t. (t, (tt, (tt, (tt, (tt, tt))))))
 
+pub one-write-along : OneOutcome write_along.Kinds.ps write_along.Kinds.r write_along.Reads.Learnt
+one-write-along _ _ _ _ = one-value (λ t. (t .1, (tt, (tt, (tt, (tt, (tt, (t .0, (tt, tt)))))))))
+
 pub one-write-listed : OneOutcome write_listed.Kinds.ps write_listed.Kinds.r write_listed.Reads.Learnt
 one-write-listed _ _ _ _ = one-value (λ t. (t .1, (tt, (tt, (tt, (tt, (t .0, (tt, tt))))))))
 
@@ -64,8 +72,20 @@ one-count-nodes _ _ _ _ = one-value (λ t. (t, (tt, (tt, (tt, tt)))))
 pub one-first-of : OneOutcome first_of.Kinds.ps first_of.Kinds.r first_of.Reads.Learnt
 one-first-of _ _ _ _ = one-value (λ t. (t, (tt, (tt, (tt, tt)))))
 
-pub one-step-of : OneOutcome step_of.Kinds.ps step_of.Kinds.r step_of.Reads.Learnt
-one-step-of _ _ _ _ = one-value (λ t. (t, (tt, (tt, (tt, (tt, (tt, tt)))))))
+pub one-next-descendant : OneOutcome next_descendant.Kinds.ps next_descendant.Kinds.r next_descendant.Reads.Learnt
+one-next-descendant _ _ _ _ = one-value (λ t. (t, (tt, (tt, (tt, (tt, tt))))))
+
+pub one-goes-down : OneOutcome goes_down.Kinds.ps goes_down.Kinds.r goes_down.Reads.Learnt
+one-goes-down _ _ _ _ = one-value (λ t. (t, (tt, tt)))
+
+pub one-near-link : OneOutcome near_link.Kinds.ps near_link.Kinds.r near_link.Reads.Learnt
+one-near-link _ _ _ _ = one-value (λ t. (t, (tt, tt)))
+
+pub one-far-link : OneOutcome far_link.Kinds.ps far_link.Kinds.r far_link.Reads.Learnt
+one-far-link _ _ _ _ = one-value (λ t. (t, (tt, tt)))
+
+pub one-link-else : OneOutcome link_else.Kinds.ps link_else.Kinds.r link_else.Reads.Learnt
+one-link-else _ _ _ _ = one-value (λ t. (t, (tt, (tt, (tt, (tt, tt))))))
 
 pub one-keeps : OneOutcome keeps.Kinds.ps keeps.Kinds.r keeps.Reads.Learnt
 one-keeps _ _ _ _ = one-value (λ t. (t, (tt, (tt, (tt, tt)))))

@@ -1,6 +1,7 @@
 pub mod Orders
 pub mod Storing
 pub mod OrderLaws
+pub mod OrderLinks
 pub mod LoopLaws
 pub mod Levels
 pub mod LevelLaws

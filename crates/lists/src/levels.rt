@@ -1,8 +1,10 @@
 // Level order, with the list itself as the queue.
 use crate::lists::count_listed;
-use crate::lists::write_listed;
+use crate::lists::write_along;
 use crate::order::Order;
 use link::id::found;
+use link::words::Slot;
+use link::words::link_of;
 use rules::answer::Number;
 use rules::answer::Reply;
 ghost use mathlib.Core.Path.{_≡_};
@@ -25,7 +27,16 @@ fn write_levels(words: &[u32], root: u32, size: u32, list: &mut [u32]) -> u32
     let mut at: usize = 1;
     while asked < at {
         let x = list[asked];
-        at = write_listed(words, size - (at as u32), Order::Children, x, list, at);
+        let first = link_of(words, x, Slot::FIRST);
+        at = write_along(
+            words,
+            size - (at as u32),
+            Slot::NEXT,
+            Slot::NEXT,
+            first,
+            list,
+            at,
+        );
         asked += 1;
     }
     at as u32

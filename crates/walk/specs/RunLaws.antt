@@ -4,17 +4,16 @@ use mathlib.Core.Path.{_≡_, refl, sym, ap, _∙_, subst}
 use mathlib.Core.Logic.{_⊎_, inl, inr}
 use mathlib.Core.Bool.{Bool, true, false}
 use mathlib.Core.List.{List}
-use Prim.Native.Nat.{_-_, ℕ, zero, suc, _+_, _<_, _≤_}
+use Prim.Native.Nat.{_-_, _*_, ℕ, zero, suc, _+_, _<_, _≤_}
 use native.Mathlib.Omega.{arith}
-use lib.ListN.{set, length-set}
+use lib.ListN.{getD, set, length-set}
 use borrow.Author.Tests.{eq-eqb, ne-eqb}
 use Rattle.link.specs.Ids.{slotOf}
-use Rattle.link.specs.Words.{PARENT, NEXT, FIRST, word, link}
+use Rattle.link.specs.Words.{PARENT, NEXT, FIRST, width, word, link}
 use Rattle.link.specs.WordLaws.{link-some}
 use Rattle.link.specs.Found.{foundB}
-use Rattle.link.specs.FoundLaws.{found-is}
 use Rattle.walk.specs.Edges.{edgeId, edgeCode, nextTraverse, nextOfNext}
-use Rattle.walk.specs.Runs.{yieldFrom, Gone, stepAt, reachedAt, Ran}
+use Rattle.walk.specs.Runs.{yieldFrom, Gone, stepAt, reachedAt, Ended, Ran}
 use Rattle.walk.specs.WalkLaws.{yield-out, yield-over, yield-broken, turn-edge, turn-lost}
 use Rattle.walk.specs.declared.edge.Edge.{Edge}
 use Rattle.walk.specs.declared.edge.Edge.the-variants.{Start, End}
@@ -36,6 +35,9 @@ ending-starting e = let z : wayNo W.Ending ≡ wayNo W.Starting = ap wayNo e in 
 
 pub lost-starting : W.Lost ≡ W.Starting → ⊥
 lost-starting e = let z : wayNo W.Lost ≡ wayNo W.Starting = ap wayNo e in omega arith
+
+pub over-starting : W.Over ≡ W.Starting → ⊥
+over-starting e = let z : wayNo W.Over ≡ wayNo W.Starting = ap wayNo e in omega arith
 
 pub starting-ending : W.Starting ≡ W.Ending → ⊥
 starting-ending e = let z : wayNo W.Starting ≡ wayNo W.Ending = ap wayNo e in omega arith
@@ -93,6 +95,23 @@ module _ {m : List ℕ} {used root budget : ℕ} {next₀ : Step} {list₀ : Lis
       → Gone m used root budget next₀ list₀ count₀ (stepAt way id) list count → Ran m used root budget next₀ list₀ count₀ out way id list count
   ran-full out way id list count h k g = record { gone = g; moves = inl (omega arith); full = λ _. h }
 
+  -- End of a node that is found, as it was written.
+  pub gone-end : (x : ℕ) (list : List ℕ) (count : ℕ) {way : Way} {id : ℕ} {list′ : List ℕ} {count′ : ℕ} {found : Bool}
+      → Gone m used root budget next₀ list₀ count₀ (S.Edge (End x)) list count → count < budget → found ≡ foundB m used x → found ≡ true
+      → Ended m root x list count way id list′ count′ → Gone m used root budget next₀ list₀ count₀ (stepAt way id) list′ count′
+  gone-end x list count {way} {id} {list′} {count′} g h f t w =
+      subst (λ (l : List ℕ). Gone m used root budget next₀ list₀ count₀ (stepAt way id) l count′) (sym (w .place))
+      (subst (λ (k : ℕ). Gone m used root budget next₀ list₀ count₀ (stepAt way id) (set list count (x + 32768)) k) (sym (w .one))
+      (gone-edge (End x) list count g h refl f t refl (w .after)))
+
+  pub ran-end : (out : Way) (x : ℕ) (list : List ℕ) (count : ℕ) {way : Way} {id : ℕ} {list′ : List ℕ} {count′ : ℕ} {found : Bool}
+      → Gone m used root budget next₀ list₀ count₀ (S.Edge (End x)) list count → count < budget → found ≡ foundB m used x → found ≡ true
+      → Ended m root x list count way id list′ count′ → (way ≡ out → ⊥) → Ran m used root budget next₀ list₀ count₀ out way id list′ count′
+  ran-end out x list count {way} {id} {list′} {count′} g h f t w n =
+      let b = g .from in
+      let o = w .one in
+      ran-edge out way id list′ count′ n (omega arith) (gone-end x list count g h f t w)
+
 -- The end of a run as it is handed back.
 pub ran-reached : (m : List ℕ) (used root budget : ℕ) (next : Step) (list : List ℕ) (count₀ : ℕ) (out : Way) (list′ : List ℕ)
     {count id : ℕ} {way : Way} {r : Reached} → r ≡ reachedAt count id way → Ran m used root budget next list count₀ out way id list′ count
@@ -100,43 +119,50 @@ pub ran-reached : (m : List ℕ) (used root budget : ℕ) (next : Step) (list : 
 ran-reached m used root budget next list count₀ out list′ e x =
     subst (λ (q : Reached). Ran m used root budget next list count₀ out (q .way) (q .id) list′ (q .count)) (sym e) x
 
+pub ended-reached : (m : List ℕ) (root x : ℕ) (list : List ℕ) (count : ℕ) {id : ℕ} {way : Way} {r : Reached} → r ≡ reachedAt (count + 1) id way
+    → stepAt way id ≡ nextOfNext m root (End x) → Ended m root x list count (r .way) (r .id) (set list count (x + 32768)) (r .count)
+ended-reached m root x list count e a =
+    subst (λ (q : Reached). Ended m root x list count (q .way) (q .id) (set list count (x + 32768)) (q .count)) (sym e) (record { place = refl; one = refl; after = a })
+
 pub gone-none : (m : List ℕ) (used root budget : ℕ) (next : Step) (list : List ℕ) (count : ℕ) → count ≤ budget → Gone m used root budget next list count next list count
 gone-none m used root budget next list count h = record { from = omega arith; upto = h; places = refl; rest = refl }
 
--- What follows an edge of a found identifier, by the words of its slot.
-module _ (m : List ℕ) (used root id : ℕ) {found : Bool} (f : found ≡ foundB m used id) (t : found ≡ true) where
-  reads : (k : ℕ) → word m (slotOf id) k ≡ link m id k
-  reads k = sym (link-some m id k (found-is m used id (sym f ∙ t) .from))
+-- A word counted from the end of its slot is the link.
+pub link-end : (m : List ℕ) (id end k : ℕ) → end ≡ slotOf id * width → 0 < end → getD m (end - 7 + k) 0 ≡ link m id k
+unfolding word
+link-end m id end k e h =
+    let some : 0 < slotOf id = omega arith in
+    let at : end - 7 + k ≡ (slotOf id - 1) * 7 + k = omega arith in
+    ap (λ (i : ℕ). getD m i 0) at ∙ sym (link-some m id k some)
 
-  pub after-leaf : {child : ℕ} → child ≡ word m (slotOf id) FIRST → child ≡ 0 → S.Edge (End id) ≡ nextOfNext m root (Start id)
+-- What follows an edge, by the links of its node.
+module _ (m : List ℕ) (root id : ℕ) where
+  pub after-leaf : {child : ℕ} → child ≡ link m id FIRST → child ≡ 0 → S.Edge (End id) ≡ nextOfNext m root (Start id)
   unfolding nextOfNext nextTraverse
-  after-leaf c z = simp (eq-eqb (link m id FIRST) 0 (sym (c ∙ reads FIRST) ∙ z))
+  after-leaf c z = simp (eq-eqb (link m id FIRST) 0 (sym c ∙ z))
 
-  pub after-child : {child : ℕ} → child ≡ word m (slotOf id) FIRST → (child ≡ 0 → ⊥) → S.Edge (Start child) ≡ nextOfNext m root (Start id)
+  pub after-child : {child : ℕ} → child ≡ link m id FIRST → (child ≡ 0 → ⊥) → S.Edge (Start child) ≡ nextOfNext m root (Start id)
   unfolding nextOfNext nextTraverse
-  after-child c z = simp (ne-eqb (link m id FIRST) 0 (λ e. z (c ∙ reads FIRST ∙ e))) (ap (λ (y : ℕ). S.Edge (Start y)) (c ∙ reads FIRST))
+  after-child c z = simp (ne-eqb (link m id FIRST) 0 (λ e. z (c ∙ e))) (ap (λ (y : ℕ). S.Edge (Start y)) c)
 
   pub after-root : id ≡ root → S.Over ≡ nextOfNext m root (End id)
   unfolding nextOfNext
   after-root e = simp (eq-eqb id root e)
 
-  pub after-sibling : {sibling : ℕ} → (id ≡ root → ⊥) → sibling ≡ word m (slotOf id) NEXT → (sibling ≡ 0 → ⊥) → S.Edge (Start sibling) ≡ nextOfNext m root (End id)
+  pub after-sibling : {sibling : ℕ} → (id ≡ root → ⊥) → sibling ≡ link m id NEXT → (sibling ≡ 0 → ⊥) → S.Edge (Start sibling) ≡ nextOfNext m root (End id)
   unfolding nextOfNext nextTraverse
-  after-sibling r c z =
-      simp (ne-eqb id root r, ne-eqb (link m id NEXT) 0 (λ e. z (c ∙ reads NEXT ∙ e))) (ap (λ (y : ℕ). S.Edge (Start y)) (c ∙ reads NEXT))
+  after-sibling r c z = simp (ne-eqb id root r, ne-eqb (link m id NEXT) 0 (λ e. z (c ∙ e))) (ap (λ (y : ℕ). S.Edge (Start y)) c)
 
-  pub after-parent : {sibling parent : ℕ} → (id ≡ root → ⊥) → sibling ≡ word m (slotOf id) NEXT → sibling ≡ 0 → parent ≡ word m (slotOf id) PARENT → (parent ≡ 0 → ⊥)
+  pub after-parent : {sibling parent : ℕ} → (id ≡ root → ⊥) → sibling ≡ link m id NEXT → sibling ≡ 0 → parent ≡ link m id PARENT → (parent ≡ 0 → ⊥)
       → S.Edge (End parent) ≡ nextOfNext m root (End id)
   unfolding nextOfNext nextTraverse
   after-parent r c z p y =
-      simp (ne-eqb id root r, eq-eqb (link m id NEXT) 0 (sym (c ∙ reads NEXT) ∙ z), ne-eqb (link m id PARENT) 0 (λ e. y (p ∙ reads PARENT ∙ e)))
-      (ap (λ (w : ℕ). S.Edge (End w)) (p ∙ reads PARENT))
+      simp (ne-eqb id root r, eq-eqb (link m id NEXT) 0 (sym c ∙ z), ne-eqb (link m id PARENT) 0 (λ e. y (p ∙ e))) (ap (λ (w : ℕ). S.Edge (End w)) p)
 
-  pub after-top : {sibling parent : ℕ} → (id ≡ root → ⊥) → sibling ≡ word m (slotOf id) NEXT → sibling ≡ 0 → parent ≡ word m (slotOf id) PARENT → parent ≡ 0
+  pub after-top : {sibling parent : ℕ} → (id ≡ root → ⊥) → sibling ≡ link m id NEXT → sibling ≡ 0 → parent ≡ link m id PARENT → parent ≡ 0
       → S.Over ≡ nextOfNext m root (End id)
   unfolding nextOfNext nextTraverse
-  after-top r c z p y =
-      simp (ne-eqb id root r, eq-eqb (link m id NEXT) 0 (sym (c ∙ reads NEXT) ∙ z), eq-eqb (link m id PARENT) 0 (sym (p ∙ reads PARENT) ∙ y))
+  after-top r c z p y = simp (ne-eqb id root r, eq-eqb (link m id NEXT) 0 (sym c ∙ z), eq-eqb (link m id PARENT) 0 (sym p ∙ y))
 
 -- ---- one run after another
 

@@ -4,8 +4,9 @@ use mathlib.Core.Path.{_≡_}
 use mathlib.Core.Logic.{_⊎_}
 use mathlib.Core.List.{List}
 use Prim.Native.Nat.{_-_, ℕ, _+_, _<_, _≤_}
-use lib.ListN.{length}
+use lib.ListN.{length, set}
 use lib.Seq.{sets}
+use Rattle.walk.specs.Edges.{nextOfNext}
 use Rattle.walk.specs.Walks.{traversal, codes}
 use Rattle.walk.specs.declared.edge.Edge.the-variants.{Start, End}
 use Rattle.walk.specs.declared.edge.Step.{Step}
@@ -36,6 +37,12 @@ stepAt W.Lost id = S.Broken
 
 abbrev pub reachedAt : ℕ → ℕ → Way → Reached
 reachedAt count id way = record { count = count; id = id; way = way }
+
+-- End of a node written, and what is next then.
+pub record Ended (m : List ℕ) (root x : ℕ) (list : List ℕ) (count : ℕ) (way : Way) (id : ℕ) (list′ : List ℕ) (count′ : ℕ) : Type 0 where
+  pub place : list′ ≡ set list count (x + 32768)
+  pub one : count′ ≡ count + 1
+  pub after : stepAt way id ≡ nextOfNext m root (End x)
 
 -- A run from `next`: it wrote an edge or lost one, and it stands at `out` only when the budget is used.
 pub record Ran (m : List ℕ) (used root budget : ℕ) (next : Step) (list : List ℕ) (count : ℕ) (out way : Way) (id : ℕ) (list′ : List ℕ) (count′ : ℕ) : Type 0 where

@@ -1,20 +1,21 @@
 -- The contract of `lists::levels::write_levels`.
-use mathlib.Core.Path.{refl}
-use Prim.Native.Nat.{_-_}
+use mathlib.Core.Path.{refl, ap, _∙_}
+use mathlib.Core.List.{List}
+use Prim.Native.Nat.{_-_, ℕ}
 use native.Mathlib.Omega.{arith}
-use lib.ListN.{length-set, getD, set}
+use lib.ListN.{length, length-set, getD, set}
 use borrow.Author.Needs.{needs}
 use borrow.Author.Tests.{eq-eqb}
 use denote.Ref.{now}
 use Rattle.walk.specs.Written.{written}
 use Rattle.lists.specs.Levels.{levelOrder}
+use Rattle.lists.specs.Storing.{storedAt}
+use Rattle.lists.specs.OrderLinks.{linked-children}
 use Rattle.lists.specs.LoopLaws.{ordered-most}
 use Rattle.lists.specs.LevelLaws.{Levelling, levelling-begin, levelling-more, levelling-end}
 use Rattle.lists.specs.declared.order.Order.the-variants.{Children}
 use Rattle.lists.proofs.levels.write_levels.Statement.{statement}
 use Rattle.lists.proofs.levels.write_levels.Tie as tie
-
--- The contract of `lists::levels::write_levels`.
 
 abbrev Inv-loop : tie.InvT-loop
 Inv-loop words root size list₀ asked₀ at₀ list asked at = Levelling words root size list₀ list asked at
@@ -48,21 +49,25 @@ slice-read-x c =
     let t = c .before .loop-test .taken in
     search needs
 
-cast-write-listed : tie.Need-cast-write-listed Inv-loop μ-loop
-cast-write-listed c = search needs
+link-of-requires : tie.Need-link-of-requires Inv-loop μ-loop
+link-of-requires c κs = search needs
 
-sub-write-listed : tie.Need-sub-write-listed Inv-loop μ-loop
-sub-write-listed c = search needs
+cast-write-along : tie.Need-cast-write-along Inv-loop μ-loop
+cast-write-along c = search needs
 
-write-listed-requires : tie.Need-write-listed-requires Inv-loop μ-loop
-write-listed-requires c κs =
-    let a = c .before .before .before .before .before .before .before .args in
-    let at = c .before .before .before .loop in
+sub-write-along : tie.Need-sub-write-along Inv-loop μ-loop
+sub-write-along c = search needs
+
+write-along-requires : tie.Need-write-along-requires Inv-loop μ-loop
+write-along-requires c κs =
+    let a = c .before .before .before .before .before .before .before .before .args in
+    let at = c .before .before .before .before .loop in
     let b = ordered-most (now (a .words)) (a .size - at .at) Children (getD (at .list) (at .asked) 0) in
+    let e = ap length (linked-children (now (a .words)) (a .size - at .at) (getD (at .list) (at .asked) 0) (c .before .link-of .ensures)) in
     let l = length-set (now (a .list)) 0 (a .root) in
     let w = at .inv .places in
     let i = at .inv .within in
-    let p = c .before .before .before .before .before .before .before .pre in
+    let p = c .before .before .before .before .before .before .before .before .pre in
     omega arith
 
 add-asked : tie.Need-add-asked Inv-loop μ-loop
@@ -73,9 +78,10 @@ loop-less c = search needs
 
 loop-again : tie.Need-loop-again Inv-loop μ-loop
 loop-again c =
-    let a = c .before .before .before .before .before .before .before .before .before .before .args in
-    let at = c .before .before .before .before .before .before .loop in
-    levelling-more (now (a .words)) (a .root) (a .size) (set (now (a .list)) 0 (a .root)) (at .list) (at .asked) (at .at) (getD (at .list) (at .asked) 0) (rw length-set (c .before .before .before .before .before .before .before .before .before .before .pre)) (at .inv) (c .before .before .before .before .before .loop-test .taken) refl (c .before .before .write-listed .ensures)
+    let a = c .before .before .before .before .before .before .before .before .before .before .before .args in
+    let at = c .before .before .before .before .before .before .before .loop in
+    levelling-more (now (a .words)) (a .root) (a .size) (set (now (a .list)) 0 (a .root)) (at .list) (at .asked) (at .at) (getD (at .list) (at .asked) 0) (rw length-set (c .before .before .before .before .before .before .before .before .before .before .before .pre)) (at .inv) (c .before .before .before .before .before .before .loop-test .taken) refl
+    (c .before .before .write-along .ensures ∙ ap (λ (xs : List ℕ). storedAt xs (at .list) (at .at)) (linked-children (now (a .words)) (a .size - at .at) (getD (at .list) (at .asked) 0) (c .before .before .before .before .link-of .ensures)))
 
 cast-result : tie.Need-cast-result Inv-loop μ-loop
 cast-result c =
@@ -105,9 +111,10 @@ write-levels-spec =
     loop-holds
     mul-x
     slice-read-x
-    cast-write-listed
-    sub-write-listed
-    write-listed-requires
+    link-of-requires
+    cast-write-along
+    sub-write-along
+    write-along-requires
     add-asked
     loop-less
     loop-again

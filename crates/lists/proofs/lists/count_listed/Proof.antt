@@ -1,89 +1,47 @@
 -- The contract of `lists::lists::count_listed`.
-use mathlib.Core.Path.{_≡_, ap}
-use Prim.Native.Nat.{_-_, _+_, _≤_}
-use native.Mathlib.Omega.{arith}
+use mathlib.Core.Path.{_∙_, ap, sym}
 use lib.ListN.{length}
 use borrow.Author.Needs.{needs}
 use denote.Ref.{now}
-use Rattle.lists.specs.Orders.{ordered}
-use Rattle.lists.specs.OrderLaws.{one-most}
-use Rattle.lists.specs.LoopLaws.{restOf, rest-whole, rest-none, rest-out, count-more, count-end}
+use Rattle.lists.specs.OrderLinks.{linked-ordered}
 use Rattle.lists.proofs.lists.count_listed.Statement.{statement}
 use Rattle.lists.proofs.lists.count_listed.Tie as tie
 
--- The contract of `lists::lists::count_listed`.
+goes-down-requires : tie.Need-goes-down-requires
+goes-down-requires c κs = search needs
 
-abbrev Inv-loop : tie.InvT-loop
-Inv-loop words used order root x₀ count₀ left₀ x count left = (count + left ≤ used) × (count + length (restOf words used order root left x) ≡ length (ordered words used order root))
+count-below-requires : tie.Need-count-below-requires
+count-below-requires c κs = search needs
 
-abbrev μ-loop : tie.MeasureT-loop
-μ-loop words used order root x₀ count₀ left₀ x count left = left
+returns : tie.Need-returns
+returns c = search needs
 
-first-of-requires : tie.Need-first-of-requires Inv-loop μ-loop
+first-of-requires : tie.Need-first-of-requires
 first-of-requires c κs = search needs
 
-loop-holds : tie.Need-loop-holds Inv-loop μ-loop
-loop-holds c =
-    let a = c .before .before .args in
-    let e = rest-whole (now (a .words)) (a .used) (a .order) (a .root) (c .first-of .result) (c .first-of .ensures) in
-    let l : length (restOf (now (a .words)) (a .used) (a .order) (a .root) (a .used) (c .first-of .result)) ≡ length (ordered (now (a .words)) (a .used) (a .order) (a .root)) = ap length e in
-    (omega arith, omega arith)
+near-link-requires : tie.Need-near-link-requires
+near-link-requires c κs = search needs
 
-returns : tie.Need-returns Inv-loop μ-loop
-returns c =
-    let a = c .before .before .before .before .before .args in
-    let at = c .before .before .loop in
-    count-end (now (a .words)) (a .used) (a .order) (a .root) (at .left) (at .x) (at .count) (rest-none (now (a .words)) (a .used) (a .order) (a .root) (at .left) (at .x) (c .if1 .taken)) (at .inv .1)
+far-link-requires : tie.Need-far-link-requires
+far-link-requires c κs = search needs
 
-keeps-requires : tie.Need-keeps-requires Inv-loop μ-loop
-keeps-requires c κs = search needs
+count-along-requires : tie.Need-count-along-requires
+count-along-requires c κs = search needs
 
-one-if-requires : tie.Need-one-if-requires Inv-loop μ-loop
-one-if-requires c κs = search needs
-
-add-count : tie.Need-add-count Inv-loop μ-loop
-add-count c =
-    let b = one-most (c .before .keeps .result) in
-    let e = c .one-if .ensures in
-    omega arith
-
-step-of-requires : tie.Need-step-of-requires Inv-loop μ-loop
-step-of-requires c κs = search needs
-
-sub-left : tie.Need-sub-left Inv-loop μ-loop
-sub-left c = search needs
-
-loop-less : tie.Need-loop-less Inv-loop μ-loop
-loop-less c = search needs
-
-loop-again : tie.Need-loop-again Inv-loop μ-loop
-loop-again c =
-    let a = c .before .before .before .before .before .before .before .before .args in
-    let at = c .before .before .before .before .before .loop in
-    let b = one-most (c .before .before .keeps .result) in
-    let e = c .before .one-if .ensures in
-    (omega arith, count-more (now (a .words)) (a .used) (a .order) (a .root) (at .left) (at .x) (at .count) (c .before .before .before .before .loop-test .taken) (c .before .before .before .if1 .left) (c .before .before .keeps .ensures) (c .before .one-if .ensures) (c .step-of .ensures) (at .inv .1))
-
-returns-2 : tie.Need-returns-2 Inv-loop μ-loop
+returns-2 : tie.Need-returns-2
 returns-2 c =
-    let a = c .before .before .before .before .args in
-    let at = c .before .loop in
-    count-end (now (a .words)) (a .used) (a .order) (a .root) (at .left) (at .x) (at .count) (rest-out (now (a .words)) (a .used) (a .order) (a .root) (at .left) (at .x) (c .loop-test .left)) (at .inv .1)
+    let a = c .before .before .before .before .before .before .before .args in
+    c .count-along .ensures ∙ ap length (linked-ordered (now (a .words)) (a .used) (a .order) (a .root) (sym (c .before .before .before .before .before .goes-down .ensures) ∙ c .before .before .before .before .if1 .left) (c .before .before .near-link .ensures) (c .before .far-link .ensures) (c .before .before .before .first-of .ensures))
 
 pub count-listed-spec : {M : Type 1} → statement M
 count-listed-spec =
     tie.close
     (tie.spec
-    Inv-loop
-    μ-loop
-    first-of-requires
-    loop-holds
+    goes-down-requires
+    count-below-requires
     returns
-    keeps-requires
-    one-if-requires
-    add-count
-    step-of-requires
-    sub-left
-    loop-less
-    loop-again
+    first-of-requires
+    near-link-requires
+    far-link-requires
+    count-along-requires
     returns-2)

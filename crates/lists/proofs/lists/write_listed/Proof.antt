@@ -1,90 +1,63 @@
 -- The contract of `lists::lists::write_listed`.
-use mathlib.Core.Path.{_≡_, ap}
+use mathlib.Core.Path.{_∙_, ap, sym}
 use mathlib.Core.List.{List}
-use Prim.Native.Nat.{ℕ, _-_}
+use Prim.Native.Nat.{ℕ}
+use native.Mathlib.Omega.{arith}
 use lib.ListN.{length}
 use borrow.Author.Needs.{needs}
 use denote.Ref.{now}
-use Rattle.lists.specs.Orders.{ordered}
 use Rattle.lists.specs.Storing.{storedAt}
-use Rattle.lists.specs.LoopLaws.{restOf, rest-whole, rest-none, rest-out, store-place, store-more, store-end}
+use Rattle.lists.specs.OrderLinks.{linked-ordered}
 use Rattle.lists.proofs.lists.write_listed.Statement.{statement}
 use Rattle.lists.proofs.lists.write_listed.Tie as tie
 
--- The contract of `lists::lists::write_listed`.
+goes-down-requires : tie.Need-goes-down-requires
+goes-down-requires c κs = search needs
 
-abbrev Inv-loop : tie.InvT-loop
-Inv-loop words used order root list₀ start x₀ at₀ left₀ list x at left = (length list ≡ length list₀) × (storedAt (restOf words used order root left x) list at ≡ storedAt (ordered words used order root) list₀ start)
+write-below-requires : tie.Need-write-below-requires
+write-below-requires c κs = search needs
 
-abbrev μ-loop : tie.MeasureT-loop
-μ-loop words used order root list₀ start x₀ at₀ left₀ list x at left = left
-
-first-of-requires : tie.Need-first-of-requires Inv-loop μ-loop
-first-of-requires c κs = search needs
-
-loop-holds : tie.Need-loop-holds Inv-loop μ-loop
-loop-holds c =
-    let a = c .before .before .before .args in
-    (search needs, ap (λ (xs : List ℕ). storedAt xs (now (a .list)) (a .start)) (rest-whole (now (a .words)) (a .used) (a .order) (a .root) (c .first-of .result) (c .first-of .ensures)))
-
-same-length : tie.Need-same-length Inv-loop μ-loop
+same-length : tie.Need-same-length
 same-length c = search needs
 
-returns : tie.Need-returns Inv-loop μ-loop
-returns c =
-    let a = c .before .before .before .before .before .before .args in
-    let at = c .before .before .loop in
-    store-end (now (a .words)) (a .used) (a .order) (a .root) (at .left) (at .x) (at .list) (at .at) (rest-none (now (a .words)) (a .used) (a .order) (a .root) (at .left) (at .x) (c .if1 .taken)) (at .inv .1)
+returns : tie.Need-returns
+returns c = search needs
 
-keeps-requires : tie.Need-keeps-requires Inv-loop μ-loop
-keeps-requires c κs = search needs
+first-of-requires : tie.Need-first-of-requires
+first-of-requires c κs = search needs
 
-put-if-requires : tie.Need-put-if-requires Inv-loop μ-loop
-put-if-requires c κs =
+near-link-requires : tie.Need-near-link-requires
+near-link-requires c κs = search needs
+
+far-link-requires : tie.Need-far-link-requires
+far-link-requires c κs = search needs
+
+write-along-requires : tie.Need-write-along-requires
+write-along-requires c κs =
     let a = c .before .before .before .before .before .before .before .before .args in
-    let at = c .before .before .before .before .loop in
-    λ e. store-place (now (a .words)) (a .used) (a .order) (a .root) (at .left) (at .x) (at .list) (at .at) (ordered (now (a .words)) (a .used) (a .order) (a .root)) (now (a .list)) (a .start)
-    (c .before .before .before .loop-test .taken) (c .before .before .if1 .left) (c .keeps .ensures) e (at .inv .1) (c .before .before .before .before .before .before .before .before .pre) (at .inv .0)
+    let e = ap length (linked-ordered (now (a .words)) (a .used) (a .order) (a .root) (sym (c .before .before .before .before .before .goes-down .ensures) ∙ c .before .before .before .before .if1 .left) (c .before .before .near-link .ensures) (c .before .far-link .ensures) (c .before .before .before .first-of .ensures)) in
+    let p = c .before .before .before .before .before .before .before .before .pre in
+    omega arith
 
-step-of-requires : tie.Need-step-of-requires Inv-loop μ-loop
-step-of-requires c κs = search needs
-
-sub-left : tie.Need-sub-left Inv-loop μ-loop
-sub-left c = search needs
-
-loop-less : tie.Need-loop-less Inv-loop μ-loop
-loop-less c = search needs
-
-loop-again : tie.Need-loop-again Inv-loop μ-loop
-loop-again c =
-    let a = c .before .before .before .before .before .before .before .before .before .before .before .before .args in
-    let at = c .before .before .before .before .before .before .before .before .loop in
-    (search needs, store-more (now (a .words)) (a .used) (a .order) (a .root) (at .left) (at .x) (at .list) (at .at) (c .before .before .before .before .before .before .before .loop-test .taken) (c .before .before .before .before .before .before .if1 .left) (c .before .before .before .before .keeps .ensures) (c .before .before .before .put-if .ensures) (c .step-of .ensures) (at .inv .1))
-
-same-length-2 : tie.Need-same-length-2 Inv-loop μ-loop
+same-length-2 : tie.Need-same-length-2
 same-length-2 c = search needs
 
-returns-2 : tie.Need-returns-2 Inv-loop μ-loop
+returns-2 : tie.Need-returns-2
 returns-2 c =
-    let a = c .before .before .before .before .before .args in
-    let at = c .before .loop in
-    store-end (now (a .words)) (a .used) (a .order) (a .root) (at .left) (at .x) (at .list) (at .at) (rest-out (now (a .words)) (a .used) (a .order) (a .root) (at .left) (at .x) (c .loop-test .left)) (at .inv .1)
+    let a = c .before .before .before .before .before .before .before .before .before .before .before .args in
+    c .before .before .write-along .ensures ∙ ap (λ (xs : List ℕ). storedAt xs (now (a .list)) (a .start)) (linked-ordered (now (a .words)) (a .used) (a .order) (a .root) (sym (c .before .before .before .before .before .before .before .before .goes-down .ensures) ∙ c .before .before .before .before .before .before .before .if1 .left) (c .before .before .before .before .before .near-link .ensures) (c .before .before .before .before .far-link .ensures) (c .before .before .before .before .before .before .first-of .ensures))
 
 pub write-listed-spec : {M : Type 1} → statement M
 write-listed-spec =
     tie.close
     (tie.spec
-    Inv-loop
-    μ-loop
-    first-of-requires
-    loop-holds
+    goes-down-requires
+    write-below-requires
     same-length
     returns
-    keeps-requires
-    put-if-requires
-    step-of-requires
-    sub-left
-    loop-less
-    loop-again
+    first-of-requires
+    near-link-requires
+    far-link-requires
+    write-along-requires
     same-length-2
     returns-2)

@@ -13,13 +13,13 @@ returns : tie.Need-returns
 unfolding nextDescendant
 returns c = rw (c .before .link-of .ensures) (simp (ne-eqb _ _ (λ x. c .if1 .taken (c .before .link-of .ensures ∙ x))))
 
-after-subtree-requires : tie.Need-after-subtree-requires
-after-subtree-requires c κs = search needs
+behind-requires : tie.Need-behind-requires
+behind-requires c κs = search needs
 
 returns-2 : tie.Need-returns-2
 unfolding nextDescendant
-returns-2 c = simp (eq-eqb _ _ (sym (c .before .before .link-of .ensures) ∙ c .before .if1 .left)) (c .after-subtree .ensures)
+returns-2 c = simp (eq-eqb _ _ (sym (c .before .before .link-of .ensures) ∙ c .before .if1 .left)) (c .behind .ensures)
 
 pub next-descendant-spec : {M : Type 1} → statement M
 next-descendant-spec =
-    tie.close (tie.spec link-of-requires returns after-subtree-requires returns-2)
+    tie.close (tie.spec link-of-requires returns behind-requires returns-2)
