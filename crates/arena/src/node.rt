@@ -1,7 +1,7 @@
 // A node's words: all seven written as one, and one of them read or set by identifier.
 // Reads and set ask for nothing: they refuse FRAME, then REMOVED, on any memory and header.
+use examine::slots::found_within;
 use link::header::Header;
-use link::id::found;
 use link::words::Slot;
 use link::words::capacity;
 use link::words::link_of;
@@ -37,7 +37,7 @@ fn named(words: &[u32], h: Header, id: u32) -> u32
     if capacity(words) < h.used {
         return Number::FRAME;
     }
-    if found(words, h.used, id) {
+    if found_within(words, h.used, id) {
         return Number::DONE;
     }
     Number::REMOVED

@@ -1,8 +1,8 @@
 // The four moves, once over where they put the node: SELF, REMOVED, ANCESTOR, then out and in.
 use crate::detach::detach;
 use crate::place::Place;
+use examine::slots::found_within;
 use link::header::Header;
-use link::id::found;
 use link::relations::insert_with_neighbors;
 use link::words::Slot;
 use link::words::link_of;
@@ -10,7 +10,8 @@ use rules::answer::Answer;
 use rules::answer::Number;
 ghost use mathlib.Core.Path.{_≡_};
 ghost use Prim.Native.Nat.{_≤_};
-ghost use Rattle.link.specs.Words.{most};
+ghost use lib.ListN.{length};
+ghost use Rattle.link.specs.Words.{capacityOf};
 ghost use Rattle.moves.specs.Moves.{onPathB, ancestorOrSelfB, moveNo, moveWords, moveNode};
 
 // Whether id is other or one of its ancestors, of which `steps` are looked at; yes as well where these do not suffice.
@@ -44,14 +45,14 @@ fn is_ancestor_or_self_of(words: &[u32], id: u32, other: u32, steps: u32) -> boo
 
 // The number of a move: SELF, REMOVED, ANCESTOR, else DONE.
 pub fn move_number(words: &[u32], h: Header, target: u32, moved: u32) -> u32
-    requires { ⌜ h .used ≤ most ⌝ }
+    requires { ⌜ h .used ≤ capacityOf (length (now words)) ⌝ }
     ensures { λ r. ⌜ r ≡ moveNo (now (words .entry)) h target moved ⌝ }
 {
     if target == moved {
         return Number::SELF;
     }
-    if found(words, h.used, target) {
-        if found(words, h.used, moved) {
+    if found_within(words, h.used, target) {
+        if found_within(words, h.used, moved) {
             let parent = link_of(words, target, Slot::PARENT);
             if is_ancestor_or_self_of(words, moved, parent, h.used + 1) {
                 return Number::ANCESTOR;
@@ -74,7 +75,7 @@ pub fn move_words(words: &mut [u32], place: Place, target: u32, moved: u32, step
 
 // The work of the four moves.
 pub fn move_node(words: &mut [u32], h: Header, place: Place, target: u32, moved: u32) -> Answer
-    requires { ⌜ h .used ≤ most ⌝ }
+    requires { ⌜ h .used ≤ capacityOf (length (now words)) ⌝ }
     ensures { λ r. ⌜ (now (words .exit), r) ≡ moveNode place (now (words .entry)) h target moved ⌝ }
 {
     let number = move_number(words, h, target, moved);

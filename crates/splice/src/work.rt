@@ -5,8 +5,8 @@ use crate::splice::tie_in;
 use crate::spot::spot;
 use arena::arena::create;
 use arena::arena::free_node;
+use examine::slots::found_within;
 use link::header::Header;
-use link::id::found;
 use link::id::slot_of;
 use link::siblings_range::DetachedSiblingsRange;
 use link::siblings_range::Placed;
@@ -34,7 +34,7 @@ pub fn detach_ready(words: &mut [u32], h: Header, id: u32) -> Answer
     requires { ⌜ Ready (now words) h × (h .used ≤ capacityOf (length (now words))) ⌝ }
     ensures { λ r. ⌜ (now (words .exit), r) ≡ detachNode (now (words .entry)) h id ⌝ }
 {
-    if found(words, h.used, id) {
+    if found_within(words, h.used, id) {
         take_out(words, id);
         return Answer {
             header: h,
@@ -78,7 +78,7 @@ pub fn value_ready(words: &mut [u32], h: Header, place: Place, target: u32, numb
     requires { ⌜ Ready (now words) h × (h .used ≤ capacityOf (length (now words))) ⌝ }
     ensures { λ r. ⌜ (now (words .exit), r) ≡ valueNode place (now (words .entry)) h target number ⌝ }
 {
-    if found(words, h.used, target) {
+    if found_within(words, h.used, target) {
         // The target's parent. Read before the writes, which do not change it: so it need not wait for them.
         let above = get_word(words, slot_of(target), Slot::PARENT);
         let made = create(words, h, number);
@@ -146,7 +146,7 @@ pub fn remove_ready(words: &mut [u32], h: Header, id: u32) -> Answer
     requires { ⌜ Ready (now words) h × (h .used ≤ capacityOf (length (now words))) ⌝ }
     ensures { λ r. ⌜ (now (words .exit), r) ≡ removeNode (now (words .entry)) h id ⌝ }
 {
-    if found(words, h.used, id) {
+    if found_within(words, h.used, id) {
         let slot = slot_of(id);
         let parent = get_word(words, slot, Slot::PARENT);
         let previous = get_word(words, slot, Slot::PREVIOUS);
@@ -173,7 +173,7 @@ pub fn remove_subtree_ready(words: &mut [u32], h: Header, id: u32) -> Answer
     requires { ⌜ Ready (now words) h × (h .used ≤ capacityOf (length (now words))) ⌝ }
     ensures { λ r. ⌜ (now (words .exit), r) ≡ removeSubtree (now (words .entry)) h id ⌝ }
 {
-    if found(words, h.used, id) {
+    if found_within(words, h.used, id) {
         take_out(words, id);
         let below = remove_descendants(words, h, id);
         let header = free_node(words, below, id);

@@ -1,8 +1,5 @@
 -- The contract of `moves::calls::checked_move`.
-use lib.ListN.{length}
 use borrow.Author.Needs.{needs}
-use denote.Ref.{now}
-use Rattle.sound.specs.GuardLaws.{capacity-fits}
 use Rattle.sound.specs.GuardedLaws.{guarded-done, guarded-refused}
 use Rattle.moves.proofs.calls.checked_move.Statement.{statement}
 use Rattle.moves.proofs.calls.checked_move.Tie as tie
@@ -11,7 +8,7 @@ guard-requires : tie.Need-guard-requires
 guard-requires c κs = search needs
 
 move-node-requires : tie.Need-move-node-requires
-move-node-requires c κs = let a = c .before .before .before .before .before .before .before .before .before .args in capacity-fits (length (now (a .words))) (a .h .used) (c .before .before .before .before .guard .ensures .1 .0 (c .before .if1 .taken) .0) .0
+move-node-requires c κs = (c .before .before .before .before .guard .ensures .1 .0 (c .before .if1 .taken) .0)
 
 same-length : tie.Need-same-length
 same-length c = search needs

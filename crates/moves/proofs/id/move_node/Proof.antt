@@ -1,5 +1,9 @@
 -- The contract of `moves::id::move_node`.
+use native.Mathlib.Omega.{arith}
+use lib.ListN.{length}
 use borrow.Author.Needs.{needs}
+use denote.Ref.{now}
+use Rattle.sound.specs.GuardLaws.{capacity-fits}
 use Rattle.moves.specs.MoveLaws.{moved-done, moved-refused}
 use Rattle.moves.proofs.id.move_node.Statement.{statement}
 use Rattle.moves.proofs.id.move_node.Tie as tie
@@ -8,7 +12,7 @@ move-number-requires : tie.Need-move-number-requires
 move-number-requires c κs = search needs
 
 add-move-words : tie.Need-add-move-words
-add-move-words c = search needs
+add-move-words c = let a = c .before .before .before .before .before .before .args in let w = capacity-fits (length (now (a .words))) (a .h .used) (c .before .before .before .before .before .before .pre) .0 in omega arith
 
 move-words-requires : tie.Need-move-words-requires
 move-words-requires c κs = search needs

@@ -13,7 +13,7 @@ use Rattle.splice.proofs.work.move_ready.Statement.{statement}
 use Rattle.splice.proofs.work.move_ready.Tie as tie
 
 move-number-requires : tie.Need-move-number-requires
-move-number-requires c κs = let a = c .before .before .args in capacity-fits (length (now (a .words))) (a .h .used) (c .before .before .pre .1) .0
+move-number-requires c κs = c .before .before .pre .1
 
 slot-of-requires : tie.Need-slot-of-requires
 slot-of-requires c κs = search needs
