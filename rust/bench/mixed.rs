@@ -1,5 +1,5 @@
 //! Mixed commands: a batch against the same operations called directly on the crate's arena, with its own identifiers; and what a command
-//! costs by the slots in use.
+//! costs by the slots in use. Beside it what a batch in plain C takes, of the same design and with nothing tested: what the machine allows.
 
 use crate::dice::Dice;
 use crate::shapes::churned;
@@ -133,6 +133,41 @@ fn direct(arena: &mut Arena<u32>, op: Direct) -> u32 {
     }
 }
 
+mod plain {
+    unsafe extern "C" {
+        fn plain_batch(words: *mut u32, words_len: usize, header: *mut u32, trace: *const u8, count: usize, answers: *mut u32) -> u32;
+    }
+
+    /// The batch in plain C, of the codes without counts and validate, on ready memory.
+    pub fn batch(words: &mut [u32], header: &mut [u32; 3], trace: &[u8], answers: &mut [u32]) {
+        let count = trace.len() / 12;
+        assert!(answers.len() >= 2 * count);
+        // It writes the words, the header and two words for each command.
+        assert_eq!(unsafe { plain_batch(words.as_mut_ptr(), words.len(), header.as_mut_ptr(), trace.as_ptr(), count, answers.as_mut_ptr()) }, 0);
+    }
+}
+
+/// How much of the library's time the batch in plain C takes; its answers and words are the library's.
+fn plainly(mix: &Mix, rounds: usize) -> f64 {
+    let trace: Vec<u8> = mix.commands.iter().flat_map(|c| c.bytes()).collect();
+    let (start, header) = mix.start.to_words();
+    let mut words = vec![0; 7 * mix.capacity];
+    words[..start.len()].copy_from_slice(&start);
+    let count = mix.commands.len();
+    let (mut scratch, mut ours, mut answers) = (vec![0; 2 * mix.capacity], vec![0; 2 * count], vec![0; 2 * count]);
+    let (mut by_ours, mut by_plain) = ((words.clone(), header), (words.clone(), header));
+    face::batch(&mut by_ours.0, &mut by_ours.1, &mut scratch, &trace, &mut ours);
+    plain::batch(&mut by_plain.0, &mut by_plain.1, &trace, &mut answers);
+    assert!(ours == answers && by_ours == by_plain, "the batch in plain C does something else");
+    let make = || (words.clone(), header);
+    let (library, plain) = interleaved(
+        rounds,
+        || time_on(make, |(words, header)| assert_eq!(face::batch(words, header, &mut scratch, &trace, &mut ours).0, 0)),
+        || time_on(make, |(words, header)| plain::batch(words, header, &trace, &mut answers)),
+    );
+    plain / library
+}
+
 /// Seconds for a command: the crate's, the batch's.
 fn compare(mix: &Mix, rounds: usize) -> (f64, f64) {
     let count = mix.commands.len();
@@ -196,8 +231,8 @@ pub fn kinds(rounds: usize) {
 }
 
 pub fn table(rounds: usize, aims: &mut Aims) {
-    println!("\n| slots in use | mix | commands | direct calls on indextree, µs each | lift_batch, µs each | ratio |");
-    println!("|---|---|---|---|---|---|");
+    println!("\n| slots in use | mix | commands | direct calls on indextree, µs each | lift_batch, µs each | ratio | plain C, ratio |");
+    println!("|---|---|---|---|---|---|---|");
     let d = &mut Dice(0x2545_f491_4f6c_dd1d);
     let mut costs = Vec::new();
     for (name, codes) in [("dispatch", DISPATCH), ("every change and read", EVERY), ("all codes", ALL)] {
@@ -208,7 +243,8 @@ pub fn table(rounds: usize, aims: &mut Aims) {
             let start = churned(d, slots);
             let mix = mixed(d, start, capacity, codes, count);
             let (theirs, ours) = compare(&mix, rounds);
-            println!("| {slots} | {name} | {count} | {} | {} | {:.2} |", micro(theirs), micro(ours), ours / theirs);
+            let plain = if name == "all codes" { String::new() } else { format!("{:.2}", plainly(&mix, rounds) * ours / theirs) };
+            println!("| {slots} | {name} | {count} | {} | {} | {:.2} | {plain} |", micro(theirs), micro(ours), ours / theirs);
             costs.push((name, slots, ours, theirs));
             if name != "all codes" {
                 aims.add(&format!("batch without counts and validate, {slots} slots"), 0.7, ours / theirs);
