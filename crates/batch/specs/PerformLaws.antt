@@ -1,27 +1,28 @@
 -- The loop over the commands: where it stands, one more command, and its end.
 -- From the definitions alone, with what one command leaves.
-use mathlib.Core.Path.{_≡_, refl, sym, ap, _∙_}
+use mathlib.Core.Path.{_≡_, refl, sym, ap, _∙_, subst}
 use mathlib.Core.List.{List, [], _∷_, _++_, append-assoc, append-nil}
 use Prim.Native.Nat.{ℕ, zero, suc, _+_, _-_, _*_, _<_, _≤_}
 use native.Mathlib.Numerals.{sub-one}
 use native.Mathlib.Omega.{arith}
-use lib.ListN.{length, set, take, drop, length-set, take-append-drop}
+use lib.ListN.{length, set, take, drop, length-set, take-append-drop, length-append}
 use lib.Seq.{take-suc-set, drop-set-lt, drop-drop, length-take-le}
 use Rattle.link.specs.declared.header.Header.{Header}
 use Rattle.rules.specs.declared.answer.Answer.{Answer}
 use Rattle.walk.specs.Written.{written}
 use Rattle.command.specs.Commands.{commanded}
 use Rattle.command.specs.Known.{Knows, Did}
+use Rattle.command.specs.Acts.{Starts}
+use Rattle.command.specs.StartLaws.{readied-same}
 use Rattle.command.specs.declared.known.Known.{Known}
 use Rattle.command.specs.declared.command.Command.{Command}
 use Rattle.command.specs.declared.command.Done.{Done}
+use Rattle.command.specs.declared.command.Begun.{Begun}
+use Rattle.command.specs.declared.command.Begun.the-variants as Begun
 use Rattle.batch.specs.Trace.{size, commandAt}
 use Rattle.batch.specs.Batch.{After, after, performed}
-use Rattle.batch.specs.Performing.{Performs}
-
--- answers given before stand before those that follow
-abbrev before : List ℕ → After → After
-before xs a = after (a .words) (a .scratch) (a .header) (xs ++ a .answers)
+use Rattle.batch.specs.Performing.{before, Performs}
+use Rattle.batch.specs.declared.perform.Performed.{Performed}
 
 pub performed-step : (n : ℕ) (trace : List ℕ) (at : ℕ) (m : List ℕ) (h : Header) (s : List ℕ) → 0 < n
     → performed n trace at m h s
@@ -73,6 +74,11 @@ pub performing-begin : (n : ℕ) (trace m s list : List ℕ) (h : Header) {known
 performing-begin n trace m s list h K =
     let e : n - 0 ≡ n = omega arith in
     record { upto = omega arith; knows = K; places = refl; behind = refl; rest = ap (λ (k : ℕ). performed k trace 0 m h s) e }
+
+-- from a command on
+pub performing-from : (n from : ℕ) (trace m s list : List ℕ) (h : Header) {known : Known} → from ≤ n → Knows m h s known
+    → Performing (before (take (2 * from) list) (performed (n - from) trace (from * size) m h s)) n trace list m s list from h known
+performing-from n from trace m s list h l K = record { upto = l; knows = K; places = refl; behind = refl; rest = refl }
 
 module _ (whole : After) (n : ℕ) (trace list₀ : List ℕ) (room : 2 * n ≤ length list₀) (m s list : List ℕ) (i : ℕ) (h : Header) {known : Known} (P : Performing whole n trace list₀ m s list i h known) where
   pub performing-room : i < n → 2 * i + 2 ≤ length list
@@ -138,3 +144,45 @@ module _ (whole : After) (n : ℕ) (trace list₀ : List ℕ) (room : 2 * n ≤ 
             ∙ ap (λ (l : List ℕ). whole .answers ++ l) (P .behind ∙ ap (λ (j : ℕ). drop j list₀) k);
         knows = P .knows;
       }
+
+  -- handed over where a command found memory ready: what is left is done from there
+  pub performing-rest : {c : Command} {m′ s′ m″ s″ l″ : List ℕ} {r : Begun} {clean : ℕ} {p : Performed} → i < n → c ≡ commandAt trace (i * size)
+      → Starts (commanded c) m h s m′ s′ r → r ≡ Begun.Ready clean
+      → Performs (before (take (2 * i) list) (performed (n - i) trace (i * size) m′ h s′)) list m″ s″ l″ p → Performs whole list₀ m″ s″ l″ p
+  unfolding written
+  performing-rest {c} {m′} {s′} {m″} {s″} {l″} {r} {clean} {p} l e S f Q = record {
+    words = Q .words ∙ ap (λ (a : After). a .words) all;
+    scratch = Q .scratch ∙ ap (λ (a : After). a .scratch) all;
+    header = Q .header ∙ ap (λ (a : After). a .header) all;
+    answers = Q .answers ∙ ap (λ (t : List ℕ). (take (2 * i) list ++ rest .answers) ++ t) later
+        ∙ ap (λ (a : After). a .answers ++ drop (length (a .answers)) list₀) all;
+    knows = Q .knows;
+  }
+    where
+      rest : After
+      rest = performed (n - i) trace (i * size) m′ h s′
+
+      -- the command has the outcome that it had, and so have those behind it
+      same : rest ≡ performed (n - i) trace (i * size) m h s
+      same =
+          let one : commanded (commandAt trace (i * size)) m′ h s′ ≡ commanded (commandAt trace (i * size)) m h s
+          = ap (λ (k : Command). commanded k m′ h s′) (sym e) ∙ readied-same S f ∙ ap (λ (k : Command). commanded k m h s) e in
+          performed-step (n - i) trace (i * size) m′ h s′ (omega arith)
+          ∙ ap (λ (o : List ℕ × List ℕ × Answer). before (o .2 .number ∷ o .2 .result ∷ []) (performed (n - i - 1) trace (i * size + size) (o .0) (o .2 .header) (o .1))) one
+          ∙ sym (performed-step (n - i) trace (i * size) m h s (omega arith))
+
+      all : before (take (2 * i) list) rest ≡ whole
+      all = ap (before (take (2 * i) list)) same ∙ P .rest
+
+      -- the places behind the answers are as they were
+      later : drop (length (take (2 * i) list ++ rest .answers)) list ≡ drop (length (take (2 * i) list ++ rest .answers)) list₀
+      later =
+          let fits : 2 * i ≤ length list = let a = P .upto in let b = P .places in omega arith in
+          let k : length (take (2 * i) list ++ rest .answers) ≡ 2 * i + length (rest .answers)
+          = length-append (take (2 * i) list) (rest .answers) ∙ ap (λ (x : ℕ). x + length (rest .answers)) (length-take-le (2 * i) list fits) in
+          rw k (sym (drop-drop (length (rest .answers)) (2 * i) list) ∙ ap (drop (length (rest .answers))) (P .behind) ∙ drop-drop (length (rest .answers)) (2 * i) list₀)
+
+-- what is known, by another name
+pub performs-known : {whole : After} {list₀ m s list : List ℕ} {h : Header} {k known : Known} → k ≡ known
+    → Performs whole list₀ m s list (record { header = h; known = known }) → Performs whole list₀ m s list (record { header = h; known = k })
+performs-known {whole} {list₀} {m} {s} {list} {h} e = subst (λ (x : Known). Performs whole list₀ m s list (record { header = h; known = x })) (sym e)

@@ -8,7 +8,9 @@ use lib.ListN.{length}
 use Rattle.link.specs.Words.{capacityOf}
 use Rattle.link.specs.declared.header.Header.{Header}
 use Rattle.examine.specs.Scratch.{zeroed}
+use Rattle.examine.specs.Verdicts.{readyB}
 use Rattle.examine.specs.Examination.{examined}
+use Rattle.examine.specs.declared.chain.Verdict.the-variants.{Ready}
 use Rattle.sound.specs.Guard.{scratchAfter, guardNo}
 use Rattle.command.specs.Commands.{Outcome}
 use Rattle.command.specs.declared.known.Known.{Known}
@@ -21,6 +23,13 @@ pub record Knows (m : List ℕ) (h : Header) (scratch : List ℕ) (k : Known) : 
   pub verdict : k .looked ≡ true → k .verdict ≡ examined m h
   pub zeros : zeroed (k .clean) scratch ≡ scratch
   pub fits : k .clean ≤ length scratch
+
+-- Memory known to be ready, with `clean` scratch words known to be zero.
+abbrev pub ready : ℕ → Known
+ready clean = record { looked = true; verdict = Ready; clean = clean }
+
+unfoldable pub knownReady : Known → Bool
+knownReady k = cond (k .looked) (readyB (k .verdict)) false
 
 -- A look finds nothing to do.
 unfoldable pub settled : Known → ℕ → Bool
@@ -37,6 +46,9 @@ pub record Looked (m : List ℕ) (h : Header) (before after : List ℕ) (k : Kno
   pub zero : after ≡ zeroed (2 * h .used) before
   pub looked : k .looked ≡ true
   pub knows : Knows m h after k
+
+abbrev pub gate : ℕ → Known → Gate
+gate number known = record { number = number; known = known }
 
 -- After the guard: scratch and number as the guard leaves them, and what is known.
 pub record Gated (m : List ℕ) (h : Header) (before after : List ℕ) (g : Gate) : Type 0 where

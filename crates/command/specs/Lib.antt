@@ -1,8 +1,13 @@
 pub mod Codes
 pub mod Calls
+pub mod Kinds
+pub mod KindLaws
 pub mod CallLaws
 pub mod Commands
 pub mod Ready
 pub mod Known
 pub mod KnownLaws
 pub mod StepLaws
+pub mod Acts
+pub mod StartLaws
+pub mod ActLaws

@@ -26,7 +26,7 @@ use Rattle.keeps.specs.Set.{set-length}
 use Rattle.command.specs.Codes.{acceptable}
 use Rattle.command.specs.Calls.{callOf}
 use Rattle.command.specs.Commands.{Outcome, changed, keeping, called, commanded}
-use Rattle.command.specs.Known.{Knows, Looked, Gated, Did, settled}
+use Rattle.command.specs.Known.{gate, Knows, Looked, Gated, Did, settled}
 use Rattle.command.specs.KnownLaws.{settled-room, looked-still}
 use Rattle.command.specs.Ready.{Stays, changed-stays, set-examined}
 use Rattle.command.specs.declared.call.Change.{Change}
@@ -36,17 +36,14 @@ use Rattle.command.specs.declared.command.Gate.{Gate}
 use Rattle.command.specs.declared.command.Done.{Done}
 use Rattle.examine.specs.declared.chain.Verdict.the-variants as Is
 
-abbrev gate : ℕ → Known → Gate
-gate number known = record { number = number; known = known }
-
 -- ready memory has one verdict
+pub ready-told : (v : Verdict) → readyB v ≡ true → v ≡ Is.Ready
+ready-told Is.Unsound e = absurd (false≢true e)
+ready-told Is.Spent e = absurd (false≢true e)
+ready-told Is.Ready e = refl
+
 pub ready-verdict : (m : List ℕ) (h : Header) → Ready m h → examined m h ≡ Is.Ready
-ready-verdict m h R = told (examined m h) (examined-ready m h .1 R)
-  where
-    told : (v : Verdict) → readyB v ≡ true → v ≡ Is.Ready
-    told Is.Unsound e = absurd (false≢true e)
-    told Is.Spent e = absurd (false≢true e)
-    told Is.Ready e = refl
+ready-verdict m h R = ready-told (examined m h) (examined-ready m h .1 R)
 
 -- nothing in use
 pub knows-fresh : (m s : List ℕ) {k : Known} → (k .looked ≡ true) × (k .verdict ≡ Is.Ready) × (k .clean ≡ 0) → Knows m cleared s k

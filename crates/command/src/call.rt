@@ -28,7 +28,7 @@ pub enum Call {
 }
 
 // The place of the n-th of four like codes.
-fn place_of(n: u8) -> Place
+pub fn place_of(n: u8) -> Place
     ensures { λ r. ⌜ r ≡ placeOf n ⌝ }
 {
     match n {

@@ -1,4 +1,4 @@
-// The code table: how many arguments each code uses, and whether a command of a known code is acceptable.
+// The code table: how many arguments each code uses, what leads to its work, and whether a command of a known code is acceptable.
 ghost use mathlib.Core.Path.{_≡_};
 ghost use Prim.Native.Nat.{_<_, _≤_};
 ghost use Rattle.command.specs.Codes.{argumentTable, argumentsOf, spared, acceptable};
@@ -68,6 +68,93 @@ impl Code {
         2,
         2,
     ];
+
+    // The kind of each code, and its detail: the place of a move or a value form, from 0 on, and the word of a read.
+    pub const KINDS: [u8; 24] = [
+        Kind::NEW,
+        Kind::READ,
+        Kind::SET,
+        Kind::MOVE,
+        Kind::MOVE,
+        Kind::MOVE,
+        Kind::MOVE,
+        Kind::DETACH,
+        Kind::DETACH_CHILDREN,
+        Kind::REMOVE,
+        Kind::REMOVE_SUBTREE,
+        Kind::REMOVE_CHILDREN,
+        Kind::READ,
+        Kind::READ,
+        Kind::READ,
+        Kind::READ,
+        Kind::READ,
+        Kind::LIVE_COUNT,
+        Kind::DESCENDANT_COUNT,
+        Kind::VALIDATE,
+        Kind::VALUE,
+        Kind::VALUE,
+        Kind::VALUE,
+        Kind::VALUE,
+    ];
+
+    pub const DETAILS: [u8; 24] = [
+        0,
+        1,
+        0,
+        0,
+        1,
+        2,
+        3,
+        0,
+        0,
+        0,
+        0,
+        0,
+        2,
+        5,
+        6,
+        4,
+        3,
+        0,
+        0,
+        0,
+        0,
+        1,
+        2,
+        3,
+    ];
+}
+
+// What a command does, apart from its detail: one jump by it leads to the work. Reads and set stand first: they need neither scratch
+// nor ready memory.
+pub struct Kind(pub u8);
+
+impl Kind {
+    pub const READ: u8 = 0;
+
+    pub const SET: u8 = 1;
+
+    pub const NEW: u8 = 2;
+
+    pub const MOVE: u8 = 3;
+
+    pub const VALUE: u8 = 4;
+
+    pub const DETACH: u8 = 5;
+
+    pub const DETACH_CHILDREN: u8 = 6;
+
+    pub const REMOVE: u8 = 7;
+
+    pub const REMOVE_SUBTREE: u8 = 8;
+
+    pub const REMOVE_CHILDREN: u8 = 9;
+
+    pub const LIVE_COUNT: u8 = 10;
+
+    pub const DESCENDANT_COUNT: u8 = 11;
+
+    pub const VALIDATE: u8 = 12;
 }
 
 // How many arguments a code uses, by the table.

@@ -1,19 +1,20 @@
-// One command on a lent arena: COMMAND first, then the call that the code names, on the memory as far as it is known.
+// One command on a lent arena: COMMAND first, then the call that the code names. Where memory is not known to be ready a command is
+// started; once it is known, commands are done without examining.
 use crate::call::Call;
-use crate::call::Change;
 use crate::call::call_of;
 use crate::code::Code;
+use crate::code::Kind;
 use crate::code::is_acceptable;
 use crate::known::Known;
+use crate::known::is_ready;
 use crate::known::is_settled;
 use crate::known::look;
 use crate::known::nothing;
+use crate::known::ready;
 use crate::work::work;
-use arena::census::count_live;
 use arena::node::read;
 use arena::node::set;
 use link::header::Header;
-use lists::lists::count_nodes;
 use rules::answer::Answer;
 use rules::answer::Number;
 use rules::answer::Reply;
@@ -24,8 +25,10 @@ ghost use mathlib.Core.Path.{_≡_};
 ghost use Rattle.rules.specs.Answers.{answer};
 ghost use Rattle.sound.specs.Guard.{readyNo};
 ghost use Rattle.command.specs.Codes.{argumentTable};
+ghost use Rattle.command.specs.Kinds.{kindTable, detailTable};
 ghost use Rattle.command.specs.Commands.{keeping, called, commanded};
-ghost use Rattle.command.specs.Known.{Knows, Gated, Did};
+ghost use Rattle.command.specs.Known.{ready, Knows, Gated, Did};
+ghost use Rattle.command.specs.Acts.{acts, doneBy, Enters, Starts, Roomed};
 ghost use Rattle.command.specs.declared.call.Call.the-variants as Calls;
 
 // Twelve bytes of a trace: the code, its three unused bytes as one number, and the two arguments.
@@ -46,6 +49,24 @@ pub struct Gate {
 pub struct Done {
     pub answer: Answer,
     pub known: Known,
+}
+
+// What comes of starting a command: its answer; or memory is ready, so many scratch words are known to be zero, and it is to be done.
+pub enum Begun {
+    Answered(Done),
+    Ready(usize),
+}
+
+// What the guard says on ready memory, and how many scratch words are known to be zero then.
+pub struct Room {
+    pub number: u32,
+    pub clean: usize,
+}
+
+// What a command answers on ready memory, which stays so, and how many scratch words are known to be zero then.
+pub struct Acted {
+    pub answer: Answer,
+    pub clean: usize,
 }
 
 // The answer of a call that leaves the header alone.
@@ -94,56 +115,6 @@ fn pass(words: &[u32], h: Header, scratch: &mut [u32], known: Known) -> Gate
     Gate { number, known }
 }
 
-fn make(
-    words: &mut [u32],
-    h: Header,
-    scratch: &mut [u32],
-    known: Known,
-    change: Change,
-    a: u32,
-    b: u32,
-) -> Done
-    requires { ⌜ Knows (now words) h (now scratch) known ⌝ }
-    ensures { λ r. ⌜ Did (called (Calls.Make change) a b (now (words .entry)) h (now (scratch .entry))) (now (words .exit)) (now (scratch .exit)) r ⌝ }
-{
-    let gate = pass(words, h, scratch, known);
-    let known = gate.known;
-    if gate.number == Number::DONE {
-        let answer = work(words, h, change, a, b);
-        return Done { answer, known };
-    }
-    refuse(h, gate.number, known)
-}
-
-fn live(words: &[u32], h: Header, scratch: &mut [u32], known: Known) -> Done
-    requires { ⌜ Knows (now words) h (now scratch) known ⌝ }
-    ensures { λ r. ⌜ Did (called Calls.LiveCount 0 0 (now (words .entry)) h (now (scratch .entry))) (now (words .entry)) (now (scratch .exit)) r ⌝ }
-{
-    let gate = pass(words, h, scratch, known);
-    let known = gate.known;
-    if gate.number == Number::DONE {
-        let r = Reply {
-            number: Number::DONE,
-            result: count_live(words, h),
-        };
-        return keep(h, r, known);
-    }
-    refuse(h, gate.number, known)
-}
-
-fn descendants(words: &[u32], h: Header, scratch: &mut [u32], known: Known, id: u32) -> Done
-    requires { ⌜ Knows (now words) h (now scratch) known ⌝ }
-    ensures { λ r. ⌜ Did (called Calls.DescendantCount id 0 (now (words .entry)) h (now (scratch .entry))) (now (words .entry)) (now (scratch .exit)) r ⌝ }
-{
-    let gate = pass(words, h, scratch, known);
-    let known = gate.known;
-    if gate.number == Number::DONE {
-        let r = count_nodes(words, h.used, id);
-        return keep(h, r, known);
-    }
-    refuse(h, gate.number, known)
-}
-
 // Sound or not: the verdict, where memory fits.
 fn judge(words: &[u32], h: Header, scratch: &mut [u32], known: Known) -> Done
     requires { ⌜ Knows (now words) h (now scratch) known ⌝ }
@@ -162,7 +133,20 @@ fn judge(words: &[u32], h: Header, scratch: &mut [u32], known: Known) -> Done
     refuse(h, number, known)
 }
 
-fn call(
+// A command that needs ready memory: refused, or memory is ready now.
+fn enter(words: &[u32], h: Header, scratch: &mut [u32], known: Known) -> Begun
+    requires { ⌜ Knows (now words) h (now scratch) known ⌝ }
+    ensures { λ r. ⌜ Enters (now (words .entry)) h (now (scratch .entry)) (now (scratch .exit)) r ⌝ }
+{
+    let gate = pass(words, h, scratch, known);
+    let known = gate.known;
+    if gate.number == Number::DONE {
+        return Begun::Ready(known.clean);
+    }
+    Begun::Answered(refuse(h, gate.number, known))
+}
+
+fn begin(
     words: &mut [u32],
     h: Header,
     scratch: &mut [u32],
@@ -170,41 +154,114 @@ fn call(
     call: Call,
     a: u32,
     b: u32,
-) -> Done
+) -> Begun
     requires { ⌜ Knows (now words) h (now scratch) known ⌝ }
-    ensures { λ r. ⌜ Did (called call a b (now (words .entry)) h (now (scratch .entry))) (now (words .exit)) (now (scratch .exit)) r ⌝ }
+    ensures { λ r. ⌜ Starts (called call a b) (now (words .entry)) h (now (scratch .entry)) (now (words .exit)) (now (scratch .exit)) r ⌝ }
 {
     match call {
-        Call::Make(change) => make(words, h, scratch, known, change, a, b),
-        Call::Read(k) => keep(h, read(words, h, a, k), known),
-        Call::Set => keep(h, set(words, h, a, b), known),
-        Call::LiveCount => live(words, h, scratch, known),
-        Call::DescendantCount => descendants(words, h, scratch, known, a),
-        Call::Validate => judge(words, h, scratch, known),
+        Call::Make(change) => enter(words, h, scratch, known),
+        Call::Read(k) => Begun::Answered(keep(h, read(words, h, a, k), known)),
+        Call::Set => Begun::Answered(keep(h, set(words, h, a, b), known)),
+        Call::LiveCount => enter(words, h, scratch, known),
+        Call::DescendantCount => enter(words, h, scratch, known),
+        Call::Validate => Begun::Answered(judge(words, h, scratch, known)),
     }
 }
 
-// One command where something may be known of the memory, and what is known after it.
-pub fn step(
+// A command where memory is not known to be ready: it is answered, or memory is ready now and the command still to be done.
+pub fn start(
     words: &mut [u32],
     h: Header,
     scratch: &mut [u32],
     known: Known,
-    table: &[u8; 24],
+    arguments: &[u8; 24],
     c: Command,
-) -> Done
-    requires { ⌜ Knows (now words) h (now scratch) known × (now table ≡ argumentTable) ⌝ }
-    ensures { λ r. ⌜ Did (commanded c (now (words .entry)) h (now (scratch .entry))) (now (words .exit)) (now (scratch .exit)) r ⌝ }
+) -> Begun
+    requires { ⌜ Knows (now words) h (now scratch) known × (now arguments ≡ argumentTable) ⌝ }
+    ensures { λ r. ⌜ Starts (commanded c) (now (words .entry)) h (now (scratch .entry)) (now (words .exit)) (now (scratch .exit)) r ⌝ }
+{
+    if is_ready(known) {
+        return Begun::Ready(known.clean);
+    }
+    match c.code {
+        Code::NEW..=Code::LAST => {
+            if is_acceptable(arguments, c.code, c.unused, c.a, c.b) {
+                return begin(words, h, scratch, known, call_of(c.code), c.a, c.b);
+            }
+            Begun::Answered(refuse(h, Number::COMMAND, known))
+        }
+        _ => Begun::Answered(refuse(h, Number::COMMAND, known)),
+    }
+}
+
+// The guard of a command of this kind on ready memory: SCRATCH, or DONE; reads and set have none.
+fn admit(words: &[u32], h: Header, scratch: &mut [u32], clean: usize, kind: u8) -> Room
+    requires { ⌜ Knows (now words) h (now scratch) (ready clean) ⌝ }
+    ensures { λ r. ⌜ Roomed kind (now (words .entry)) h (now (scratch .entry)) (now (scratch .exit)) r ⌝ }
+{
+    if 2 * (h.used as usize) <= clean {
+        return Room {
+            number: Number::DONE,
+            clean,
+        };
+    }
+    if kind <= Kind::SET {
+        return Room {
+            number: Number::DONE,
+            clean,
+        };
+    }
+    let gate = pass(words, h, scratch, ready(clean));
+    let known = gate.known;
+    Room {
+        number: gate.number,
+        clean: known.clean,
+    }
+}
+
+fn refused(h: Header, number: u32, clean: usize) -> Acted
+    ensures { λ r. ⌜ r ≡ acts (answer h number 0) clean ⌝ }
+{
+    let answer = Answer {
+        header: h,
+        number,
+        result: 0,
+    };
+    Acted { answer, clean }
+}
+
+// One command on memory that is known to be ready, and how many scratch words are known to be zero after it.
+pub fn act(
+    words: &mut [u32],
+    h: Header,
+    scratch: &mut [u32],
+    clean: usize,
+    arguments: &[u8; 24],
+    kinds: &[u8; 24],
+    details: &[u8; 24],
+    c: Command,
+) -> Acted
+    requires { ⌜ Knows (now words) h (now scratch) (ready clean) × (now arguments ≡ argumentTable) × (now kinds ≡ kindTable) × (now details ≡ detailTable) ⌝ }
+    ensures { λ r. ⌜ Did (commanded c (now (words .entry)) h (now (scratch .entry))) (now (words .exit)) (now (scratch .exit)) (doneBy r) ⌝ }
 {
     match c.code {
         Code::NEW..=Code::LAST => {
-            if is_acceptable(table, c.code, c.unused, c.a, c.b) {
-                let asked = call_of(c.code);
-                return call(words, h, scratch, known, asked, c.a, c.b);
+            if is_acceptable(arguments, c.code, c.unused, c.a, c.b) {
+                let kind = kinds[(c.code - 1) as usize];
+                let room = admit(words, h, scratch, clean, kind);
+                if room.number == Number::DONE {
+                    let detail = details[(c.code - 1) as usize];
+                    let answer = work(words, h, kind, detail, c.a, c.b);
+                    return Acted {
+                        answer,
+                        clean: room.clean,
+                    };
+                }
+                return refused(h, room.number, room.clean);
             }
-            refuse(h, Number::COMMAND, known)
+            refused(h, Number::COMMAND, clean)
         }
-        _ => refuse(h, Number::COMMAND, known),
+        _ => refused(h, Number::COMMAND, clean),
     }
 }
 
@@ -212,7 +269,15 @@ pub fn step(
 pub fn one_command(words: &mut [u32], h: Header, scratch: &mut [u32], c: Command) -> Answer
     ensures { λ r. ⌜ (now (words .exit), now (scratch .exit), r) ≡ commanded c (now (words .entry)) h (now (scratch .entry)) ⌝ }
 {
-    let table = Code::ARGUMENTS;
-    let done = step(words, h, scratch, nothing(), &table, c);
-    done.answer
+    let arguments = Code::ARGUMENTS;
+    let begun = start(words, h, scratch, nothing(), &arguments, c);
+    match begun {
+        Begun::Answered(done) => done.answer,
+        Begun::Ready(clean) => {
+            let kinds = Code::KINDS;
+            let details = Code::DETAILS;
+            let acted = act(words, h, scratch, clean, &arguments, &kinds, &details, c);
+            acted.answer
+        }
+    }
 }

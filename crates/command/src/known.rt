@@ -9,7 +9,7 @@ ghost use lib.ListN.{length};
 ghost use Rattle.link.specs.Words.{width};
 ghost use Rattle.examine.specs.Scratch.{zeroed};
 ghost use Rattle.examine.specs.declared.chain.Verdict.the-variants as Is;
-ghost use Rattle.command.specs.Known.{Knows, Cleaned, Looked, settled};
+ghost use Rattle.command.specs.Known.{Knows, Cleaned, Looked, settled, ready, knownReady};
 
 pub struct Known {
     pub looked: bool,
@@ -37,6 +37,31 @@ pub fn fresh() -> Known
         verdict: Verdict::Ready,
         clean: 0,
     }
+}
+
+// Memory that is known to be ready, with so many scratch words known to be zero.
+pub fn ready(clean: usize) -> Known
+    ensures { λ r. ⌜ r ≡ ready clean ⌝ }
+{
+    Known {
+        looked: true,
+        verdict: Verdict::Ready,
+        clean,
+    }
+}
+
+pub fn is_ready(known: Known) -> bool
+    ensures { λ r. ⌜ r ≡ knownReady known ⌝ }
+{
+    if known.looked {
+        let verdict = known.verdict;
+        return match verdict {
+            Verdict::Unsound => false,
+            Verdict::Spent => false,
+            Verdict::Ready => true,
+        };
+    }
+    false
 }
 
 // Zero up to n, where the first `clean` words are zero already.

@@ -1,16 +1,26 @@
 -- The contract of `command::command::one_command`.
-use mathlib.Core.Path.{refl}
+use mathlib.Core.Path.{refl, _∙_}
 use borrow.Author.Needs.{needs}
 use denote.Ref.{now}
 use Rattle.command.specs.KnownLaws.{knows-nothing}
+use Rattle.command.specs.StartLaws.{readied-knows, readied-same}
 use Rattle.command.proofs.command.one_command.Statement.{statement}
 use Rattle.command.proofs.command.one_command.Tie as tie
 
 nothing-requires : tie.Need-nothing-requires
 nothing-requires c κs = search needs
 
-step-requires : tie.Need-step-requires
-step-requires c κs = let a = c .before .before .before .before .before .before .args in (knows-nothing (now (a .words)) (a .h) (now (a .scratch)) (c .before .nothing .ensures .0) (c .before .nothing .ensures .1), refl)
+start-requires : tie.Need-start-requires
+start-requires c κs = let a = c .before .before .before .before .before .before .args in (knows-nothing (now (a .words)) (a .h) (now (a .scratch)) (c .before .nothing .ensures .0) (c .before .nothing .ensures .1), refl)
+
+enum-known-begun : tie.Need-enum-known-begun
+enum-known-begun c = search needs
+
+enum-known-begun-2 : tie.Need-enum-known-begun-2
+enum-known-begun-2 c = search needs
+
+act-requires : tie.Need-act-requires
+act-requires c κs = (readied-knows (c .before .before .before .before .before .before .before .before .before .before .before .before .start .ensures) (c .before .before .before .before .before .before .begun2 .given .1), refl, refl, refl)
 
 same-length : tie.Need-same-length
 same-length c = search needs
@@ -19,8 +29,29 @@ same-length-2 : tie.Need-same-length-2
 same-length-2 c = search needs
 
 returns : tie.Need-returns
-returns c = search needs
+returns c = c .before .before .before .before .before .before .before .before .start .ensures .answered _ (c .before .before .begun .given .1) .same
+
+same-length-3 : tie.Need-same-length-3
+same-length-3 c = search needs
+
+same-length-4 : tie.Need-same-length-4
+same-length-4 c = search needs
+
+returns-2 : tie.Need-returns-2
+returns-2 c = c .before .before .before .before .before .act .ensures .same ∙ readied-same (c .before .before .before .before .before .before .before .before .before .before .before .before .before .before .before .before .before .before .start .ensures) (c .before .before .before .before .before .before .before .before .before .before .before .before .begun2 .given .1)
 
 pub one-command-spec : {M : Type 1} → statement M
 one-command-spec =
-    tie.close (tie.spec nothing-requires step-requires same-length same-length-2 returns)
+    tie.close
+    (tie.spec
+    nothing-requires
+    start-requires
+    enum-known-begun
+    enum-known-begun-2
+    act-requires
+    same-length
+    same-length-2
+    returns
+    same-length-3
+    same-length-4
+    returns-2)

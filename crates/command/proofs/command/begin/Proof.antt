@@ -1,18 +1,19 @@
--- The contract of `command::command::call`.
+-- The contract of `command::command::begin`.
 use mathlib.Core.Path.{sym, ap}
 use borrow.Author.Needs.{needs}
 use denote.Ref.{now}
-use Rattle.command.specs.StepLaws.{did-same, did-kept, did-set}
 use Rattle.command.specs.Commands.{called}
+use Rattle.command.specs.StepLaws.{did-same, did-kept, did-set}
+use Rattle.command.specs.StartLaws.{starts-answered, starts-same, starts-make, starts-live, starts-below}
 use Rattle.command.specs.declared.call.Call.{Call}
-use Rattle.command.proofs.command.call.Statement.{statement}
-use Rattle.command.proofs.command.call.Tie as tie
+use Rattle.command.proofs.command.begin.Statement.{statement}
+use Rattle.command.proofs.command.begin.Tie as tie
 
 enum-known-call : tie.Need-enum-known-call
 enum-known-call c = search needs
 
-make-requires : tie.Need-make-requires
-make-requires c κs = search needs
+enter-requires : tie.Need-enter-requires
+enter-requires c κs = search needs
 
 enum-known-call-2 : tie.Need-enum-known-call-2
 enum-known-call-2 c = search needs
@@ -35,14 +36,14 @@ keep-requires-2 c κs = search needs
 enum-told-2 : tie.Need-enum-told-2
 enum-told-2 c = search needs
 
-live-requires : tie.Need-live-requires
-live-requires c κs = search needs
+enter-requires-2 : tie.Need-enter-requires-2
+enter-requires-2 c κs = search needs
 
 enum-told-3 : tie.Need-enum-told-3
 enum-told-3 c = search needs
 
-descendants-requires : tie.Need-descendants-requires
-descendants-requires c κs = search needs
+enter-requires-3 : tie.Need-enter-requires-3
+enter-requires-3 c κs = search needs
 
 enum-told-4 : tie.Need-enum-told-4
 enum-told-4 c = search needs
@@ -58,8 +59,9 @@ same-length-2 c = search needs
 
 returns : tie.Need-returns
 returns c =
-    let a = c .before .before .before .before .before .before .before .before .before .before .before .before .args in
-    did-same (ap (λ (x : Call). called x (a .a) (a .b) (now (a .words)) (a .h) (now (a .scratch))) (sym (c .before .before .before .before .before .before .before .before .call .given .1))) (c .before .before .before .before .make .ensures)
+    let a = c .before .before .before .before .before .before .before .before .before .before .args in
+    starts-same (now (a .words)) (a .h) (now (a .scratch)) (a .a) (a .b) (sym (c .before .before .before .before .before .before .call .given .1))
+    (starts-make (now (a .words)) (a .h) (now (a .scratch)) (a .a) (a .b) (c .before .before .enter .ensures) _)
 
 same-length-3 : tie.Need-same-length-3
 same-length-3 c = search needs
@@ -68,8 +70,8 @@ returns-2 : tie.Need-returns-2
 unfolding called
 returns-2 c =
     let a = c .before .before .before .before .before .before .before .before .args in
-    did-same (ap (λ (x : Call). called x (a .a) (a .b) (now (a .words)) (a .h) (now (a .scratch))) (sym (c .before .before .before .before .call2 .given .1)))
-    (did-kept (now (a .words)) (a .h) (now (a .scratch)) (ap (λ r. (now (a .scratch), r)) (c .before .read .ensures)) (c .before .before .before .before .before .before .before .before .pre) (c .keep .ensures))
+    starts-answered (called (a .call) (a .a) (a .b)) (now (a .words)) (a .h) (now (a .scratch)) (did-same (ap (λ (x : Call). called x (a .a) (a .b) (now (a .words)) (a .h) (now (a .scratch))) (sym (c .before .before .before .before .call2 .given .1)))
+    (did-kept (now (a .words)) (a .h) (now (a .scratch)) (ap (λ r. (now (a .scratch), r)) (c .before .read .ensures)) (c .before .before .before .before .before .before .before .before .pre) (c .keep .ensures)))
 
 same-length-4 : tie.Need-same-length-4
 same-length-4 c = search needs
@@ -78,8 +80,8 @@ returns-3 : tie.Need-returns-3
 unfolding called
 returns-3 c =
     let a = c .before .before .before .before .before .before .before .before .before .args in
-    did-same (ap (λ (x : Call). called x (a .a) (a .b) (now (a .words)) (a .h) (now (a .scratch))) (sym (c .before .before .before .before .before .enum-told .given .1)))
-    (did-set (now (a .words)) (a .h) (now (a .scratch)) (a .a) (a .b) (c .before .before .before .set .ensures) (c .before .before .before .before .before .before .before .before .before .pre) (c .keep2 .ensures))
+    starts-answered (called (a .call) (a .a) (a .b)) (now (a .words)) (a .h) (now (a .scratch)) (did-same (ap (λ (x : Call). called x (a .a) (a .b) (now (a .words)) (a .h) (now (a .scratch))) (sym (c .before .before .before .before .before .enum-told .given .1)))
+    (did-set (now (a .words)) (a .h) (now (a .scratch)) (a .a) (a .b) (c .before .before .before .set .ensures) (c .before .before .before .before .before .before .before .before .before .pre) (c .keep2 .ensures)))
 
 same-length-5 : tie.Need-same-length-5
 same-length-5 c = search needs
@@ -88,10 +90,10 @@ same-length-6 : tie.Need-same-length-6
 same-length-6 c = search needs
 
 returns-4 : tie.Need-returns-4
-unfolding called
 returns-4 c =
     let a = c .before .before .before .before .before .before .before .before .before .args in
-    did-same (ap (λ (x : Call). called x (a .a) (a .b) (now (a .words)) (a .h) (now (a .scratch))) (sym (c .before .before .before .before .before .enum-told2 .given .1))) (c .before .before .live .ensures)
+    starts-same (now (a .words)) (a .h) (now (a .scratch)) (a .a) (a .b) (sym (c .before .before .before .before .before .enum-told2 .given .1))
+    (starts-live (now (a .words)) (a .h) (now (a .scratch)) (a .a) (a .b) (c .before .before .enter2 .ensures))
 
 same-length-7 : tie.Need-same-length-7
 same-length-7 c = search needs
@@ -100,10 +102,10 @@ same-length-8 : tie.Need-same-length-8
 same-length-8 c = search needs
 
 returns-5 : tie.Need-returns-5
-unfolding called
 returns-5 c =
     let a = c .before .before .before .before .before .before .before .before .before .args in
-    did-same (ap (λ (x : Call). called x (a .a) (a .b) (now (a .words)) (a .h) (now (a .scratch))) (sym (c .before .before .before .before .before .enum-told3 .given .1))) (c .before .before .descendants .ensures)
+    starts-same (now (a .words)) (a .h) (now (a .scratch)) (a .a) (a .b) (sym (c .before .before .before .before .before .enum-told3 .given .1))
+    (starts-below (now (a .words)) (a .h) (now (a .scratch)) (a .a) (a .b) (c .before .before .enter3 .ensures))
 
 same-length-9 : tie.Need-same-length-9
 same-length-9 c = search needs
@@ -115,14 +117,14 @@ returns-6 : tie.Need-returns-6
 unfolding called
 returns-6 c =
     let a = c .before .before .before .before .before .before .before .before .before .args in
-    did-same (ap (λ (x : Call). called x (a .a) (a .b) (now (a .words)) (a .h) (now (a .scratch))) (sym (c .before .before .before .before .before .enum-told4 .given .1))) (c .before .before .judge .ensures)
+    starts-answered (called (a .call) (a .a) (a .b)) (now (a .words)) (a .h) (now (a .scratch)) (did-same (ap (λ (x : Call). called x (a .a) (a .b) (now (a .words)) (a .h) (now (a .scratch))) (sym (c .before .before .before .before .before .enum-told4 .given .1))) (c .before .before .judge .ensures))
 
-pub call-spec : {M : Type 1} → statement M
-call-spec =
+pub begin-spec : {M : Type 1} → statement M
+begin-spec =
     tie.close
     (tie.spec
     enum-known-call
-    make-requires
+    enter-requires
     enum-known-call-2
     read-requires
     keep-requires
@@ -130,9 +132,9 @@ call-spec =
     set-requires
     keep-requires-2
     enum-told-2
-    live-requires
+    enter-requires-2
     enum-told-3
-    descendants-requires
+    enter-requires-3
     enum-told-4
     judge-requires
     same-length

@@ -1,0 +1,158 @@
+-- One command on memory that is known to be ready: what each way out leaves.
+-- From the laws of the guard, and from what the changes keep.
+use mathlib.Core.Path.{_≡_, refl, sym, ap, _∙_, subst}
+use mathlib.Core.Bool.{true, false, false≢true}
+use mathlib.Core.List.{List}
+use Prim.Native.Nat.{ℕ, zero, suc, _*_, _≤_, _<_}
+use native.Mathlib.Omega.{arith}
+use lib.ListN.{length}
+use borrow.Author.Tests.{le-leb}
+use Rattle.link.specs.Words.{capacityOf}
+use Rattle.link.specs.declared.header.Header.{Header}
+use Rattle.rules.specs.Answers.{DONE, answer, reply}
+use Rattle.rules.specs.Sound.{Ready}
+use Rattle.rules.specs.declared.answer.Answer.{Answer}
+use Rattle.rules.specs.declared.answer.Reply.{Reply}
+use Rattle.examine.specs.Verdicts.{readyB}
+use Rattle.exact.specs.Exact.{examined-ready}
+use Rattle.sound.specs.Guard.{fitNo, readyNo, soundResult, validated}
+use Rattle.sound.specs.GuardLaws.{Fits, fit-done, scratch-fits, scratch-unfit, guard-ready, guard-unfit, validated-fits, validated-unfit}
+use Rattle.sound.specs.GuardedLaws.{read-passed, read-stopped}
+use Rattle.arena.specs.Reads.{readWord, setNumber}
+use Rattle.arena.specs.Census.{censusOf, liveCall}
+use Rattle.lists.specs.Listing.{counted}
+use Rattle.command.specs.Kinds.{callBy}
+use Rattle.command.specs.Commands.{Outcome, changed, keeping, called}
+use Rattle.command.specs.Known.{gate, ready, settled, Knows, Gated, Did}
+use Rattle.command.specs.StepLaws.{ready-verdict, gated-settled, did-kept, did-set, did-refused, did-made}
+use Rattle.command.specs.Acts.{acted, freeB, acts, doneBy, Roomed}
+use Rattle.command.specs.declared.call.Call.{Call}
+use Rattle.command.specs.declared.call.Call.the-variants.{Make, Read, Set, LiveCount, DescendantCount, Validate}
+use Rattle.command.specs.declared.command.Done.{Done}
+use Rattle.command.specs.declared.command.Gate.{Gate}
+use Rattle.command.specs.declared.command.Room.{Room}
+use Rattle.examine.specs.declared.chain.Verdict.{Verdict}
+use Rattle.examine.specs.declared.chain.Verdict.the-variants as Is
+
+module _ (m : List ℕ) (h : Header) (s : List ℕ) where
+  -- what is known of ready memory
+  pub ready-knows : {clean : ℕ} → Knows m h s (ready clean) → Ready m h × (h .used ≤ capacityOf (length m))
+  ready-knows K = (examined-ready m h .0 (ap readyB (sym (K .verdict refl))), K .frame refl)
+
+ready-sounds : {v : Verdict} → v ≡ Is.Ready → 1 ≡ soundResult v
+unfolding soundResult
+ready-sounds q = rw q refl
+
+-- a call that has the guard, on ready memory: let through, and refused
+module _ (m : List ℕ) (h : Header) (s : List ℕ) {s′ : List ℕ} {clean : ℕ} (a b : ℕ) where
+  -- one that leaves the words alone
+  acted-kept : {m′ : List ℕ} {x : Answer} {r : Reply} {w : List ℕ × Reply} → (s′, r) ≡ w → Knows m h s′ (ready clean)
+      → _≡_ {A = List ℕ × Answer} (m′, x) (m, keeping h r) → Did (m, w .0, keeping h (w .1)) m′ s′ (doneBy (acts x clean))
+  acted-kept {m′} e K f = at (ap (λ (p : List ℕ × Answer). p .0) f) (did-kept m h s e K (ap (λ (p : List ℕ × Answer). p .1) f, refl))
+    where
+      at : {w : Outcome} {d : Done} → m′ ≡ m → Did w m s′ d → Did w m′ s′ d
+      at q D = rw q D
+
+  acted-guarded : (call : Call) {m′ : List ℕ} {x : Answer} → freeB call ≡ false → Gated m h s s′ (gate DONE (ready clean))
+      → (m′, x) ≡ acted call a b m h → Did (called call a b m h s) m′ s′ (doneBy (acts x clean))
+  unfolding called liveCall
+  acted-guarded (Make change) f G e = did-made m h s change a b G refl e
+  acted-guarded (Read k) f G e = absurd (false≢true (sym f))
+  acted-guarded Set f G e = absurd (false≢true (sym f))
+  acted-guarded LiveCount f G e = acted-kept (read-passed m h s (G .scratch) (G .number) refl refl) (G .knows) e
+  acted-guarded DescendantCount f G e = acted-kept (read-passed m h s (G .scratch) (G .number) refl refl) (G .knows) e
+  acted-guarded Validate f G e =
+      let (fits, room, R) = guard-ready m h (length s) .0 (sym (G .number)) in
+      let F : Fits (length m) (h .used) (length s) = record { frame = fits; room = room } in
+      acted-kept (validated-fits m h s (sym (fit-done (length m) (h .used) (length s) .1 F)) refl (G .scratch ∙ scratch-fits m h s F)
+      (ready-sounds (ready-verdict m h R))) (G .knows) e
+
+  stopped-guarded : (call : Call) {no : ℕ} → freeB call ≡ false → Gated m h s s′ (gate no (ready clean)) → (no ≡ DONE → ⊥)
+      → Did (called call a b m h s) m s′ (doneBy (acts (answer h no 0) clean))
+  unfolding called liveCall
+  stopped-guarded (Make change) f G n = did-refused m h s (changed change a b m h) G n (refl, refl)
+  stopped-guarded (Read k) f G n = absurd (false≢true (sym f))
+  stopped-guarded Set f G n = absurd (false≢true (sym f))
+  stopped-guarded LiveCount f G n =
+      did-kept m h s (read-stopped m h s (G .scratch) (G .number) (reply DONE (censusOf m h .live)) n) (G .knows) (refl, refl)
+  stopped-guarded DescendantCount f G n =
+      did-kept m h s (read-stopped m h s (G .scratch) (G .number) (counted m (h .used) a) n) (G .knows) (refl, refl)
+  stopped-guarded Validate {no} f G n = did-kept m h s unfit (G .knows) (refl, refl)
+    where
+      wrong : fitNo (length m) (h .used) (length s) ≡ DONE → ⊥
+      wrong d =
+          let F = fit-done (length m) (h .used) (length s) .0 d in
+          let R = ready-knows m h s′ (G .knows) .0 in
+          n (G .number ∙ guard-ready m h (length s) .1 (F .frame, F .room, R))
+
+      unfit : (s′, reply no 0) ≡ validated m h s
+      unfit =
+          ap (λ (t : List ℕ). (t, reply no 0)) (G .scratch ∙ scratch-unfit m h s wrong)
+          ∙ validated-unfit m h s (G .number ∙ guard-unfit m h (length s) wrong) n
+
+-- by kind
+guarded-kind : (k detail : ℕ) → freeB (callBy (suc (suc k)) detail) ≡ false
+guarded-kind zero detail = refl
+guarded-kind (suc zero) detail = refl
+guarded-kind (suc (suc zero)) detail = refl
+guarded-kind (suc (suc (suc zero))) detail = refl
+guarded-kind (suc (suc (suc (suc zero)))) detail = refl
+guarded-kind (suc (suc (suc (suc (suc zero))))) detail = refl
+guarded-kind (suc (suc (suc (suc (suc (suc zero)))))) detail = refl
+guarded-kind (suc (suc (suc (suc (suc (suc (suc zero))))))) detail = refl
+guarded-kind (suc (suc (suc (suc (suc (suc (suc (suc zero)))))))) detail = refl
+guarded-kind (suc (suc (suc (suc (suc (suc (suc (suc (suc zero))))))))) detail = refl
+guarded-kind (suc (suc (suc (suc (suc (suc (suc (suc (suc (suc k)))))))))) detail = refl
+
+module _ (m : List ℕ) (h : Header) (s : List ℕ) (detail a b : ℕ) {s′ : List ℕ} {r : Room} where
+  pub did-acted : (kind : ℕ) {m′ : List ℕ} {x : Answer} → Roomed kind m h s s′ r → r .number ≡ DONE → (m′, x) ≡ acted (callBy kind detail) a b m h
+      → Did (called (callBy kind detail) a b m h s) m′ s′ (doneBy (acts x (r .clean)))
+  unfolding called
+  did-acted zero {m′} {x} W d e = acted-kept m h s a b (ap (λ (t : List ℕ). (t, readWord detail m h a)) (W .free (omega arith) .1)) (W .knows) e
+  did-acted (suc zero) {m′} {x} W d e =
+      let q : s′ ≡ s = W .free (omega arith) .1 in
+      let m″ : m′ ≡ setNumber m h a b .0 = ap (λ (p : List ℕ × Answer). p .0) e in
+      at q (did-set m h s a b (ap (λ (t : List ℕ). (t, setNumber m h a b .1)) m″) (known q) (ap (λ (p : List ℕ × Answer). p .1) e, refl))
+    where
+      at : {w : Outcome} {dn : Done} → s′ ≡ s → Did w m′ s dn → Did w m′ s′ dn
+      at q D = rw q D
+
+      known : s′ ≡ s → Knows m h s (ready (r .clean))
+      known q = subst (λ (t : List ℕ). Knows m h t (ready (r .clean))) q (W .knows)
+  did-acted (suc (suc k)) W d e =
+      acted-guarded m h s a b (callBy (suc (suc k)) detail) (guarded-kind k detail) (at d (W .asked (omega arith))) e
+    where
+      at : {no : ℕ} → no ≡ DONE → Gated m h s s′ (gate no (ready (r .clean))) → Gated m h s s′ (gate DONE (ready (r .clean)))
+      at q G = subst (λ (no : ℕ). Gated m h s s′ (gate no (ready (r .clean)))) q G
+
+  pub did-stopped : (kind : ℕ) → Roomed kind m h s s′ r → (r .number ≡ DONE → ⊥)
+      → Did (called (callBy kind detail) a b m h s) m s′ (doneBy (acts (answer h (r .number) 0) (r .clean)))
+  did-stopped zero W n = absurd (n (W .free (omega arith) .0))
+  did-stopped (suc zero) W n = absurd (n (W .free (omega arith) .0))
+  did-stopped (suc (suc k)) W n = stopped-guarded m h s a b (callBy (suc (suc k)) detail) (guarded-kind k detail) (W .asked (omega arith)) n
+
+-- the guard on ready memory: nothing to do, none, or the guard of every call
+module _ (m : List ℕ) (h : Header) (s : List ℕ) (kind : ℕ) {clean : ℕ} (K : Knows m h s (ready clean)) where
+  abbrev room : ℕ → ℕ → Room
+  room number zeros = record { number = number; clean = zeros }
+
+  pub roomed-settled : 2 * h .used ≤ clean → Roomed kind m h s s (room DONE clean)
+  unfolding settled readyNo
+  roomed-settled l = record {
+    free = λ _. (refl, refl);
+    asked = λ _. gated-settled m h s K (le-leb (2 * h .used) clean l) (refl, refl);
+    knows = K;
+  }
+
+  pub roomed-free : kind ≤ 1 → Roomed kind m h s s (room DONE clean)
+  roomed-free l = record { free = λ _. (refl, refl); asked = λ g. absurd (omega arith); knows = K }
+
+  pub roomed-guarded : {s′ : List ℕ} {g : Gate} → 1 < kind → Gated m h s s′ g → Roomed kind m h s s′ (room (g .number) (g .known .clean))
+  roomed-guarded {s′} {g} l G = record {
+    free = λ f. absurd (omega arith);
+    asked = λ _. record { scratch = G .scratch; number = G .number; knows = still };
+    knows = still;
+  }
+    where
+      still : Knows m h s′ (ready (g .known .clean))
+      still = record { frame = K .frame; verdict = K .verdict; zeros = G .knows .zeros; fits = G .knows .fits }
