@@ -1,6 +1,7 @@
 -- The loop over the commands: where it stands, one more command, and its end.
 -- From the definitions alone, with what one command leaves.
 use mathlib.Core.Path.{_≡_, refl, sym, ap, _∙_, subst}
+use mathlib.Core.Bool.{true}
 use mathlib.Core.List.{List, [], _∷_, _++_, append-assoc, append-nil}
 use Prim.Native.Nat.{ℕ, zero, suc, _+_, _-_, _*_, _<_, _≤_}
 use native.Mathlib.Numerals.{sub-one}
@@ -16,9 +17,7 @@ use Rattle.command.specs.Acts.{Starts}
 use Rattle.command.specs.StartLaws.{readied-same}
 use Rattle.command.specs.declared.known.Known.{Known}
 use Rattle.command.specs.declared.command.Command.{Command}
-use Rattle.command.specs.declared.command.Done.{Done}
 use Rattle.command.specs.declared.command.Begun.{Begun}
-use Rattle.command.specs.declared.command.Begun.the-variants as Begun
 use Rattle.batch.specs.Trace.{size, commandAt}
 use Rattle.batch.specs.Batch.{After, after, performed}
 use Rattle.batch.specs.Performing.{before, Performs}
@@ -84,10 +83,9 @@ module _ (whole : After) (n : ℕ) (trace list₀ : List ℕ) (room : 2 * n ≤ 
   pub performing-room : i < n → 2 * i + 2 ≤ length list
   performing-room l = let e = P .places in omega arith
 
-  pub performing-more : {c : Command} {m′ s′ l′ : List ℕ} {d : Done} → i < n → c ≡ commandAt trace (i * size) → Did (commanded c m h s) m′ s′ d
-      → l′ ≡ set (set list (2 * i) (d .answer .number)) (2 * i + 1) (d .answer .result)
-      → Performing whole n trace list₀ m′ s′ l′ (i + 1) (d .answer .header) (d .known)
-  performing-more {c} {m′} {s′} {l′} {d} l e D w = record {
+  pub performing-more : {c : Command} {m′ s′ l′ : List ℕ} {a : Answer} {k : Known} → i < n → c ≡ commandAt trace (i * size) → Did (commanded c m h s) m′ s′ a k
+      → l′ ≡ set (set list (2 * i) (a .number)) (2 * i + 1) (a .result) → Performing whole n trace list₀ m′ s′ l′ (i + 1) (a .header) k
+  performing-more {c} {m′} {s′} {l′} {a} {k} l e D w = record {
     upto = omega arith;
     knows = D .knows;
     places = ap length w ∙ put-length list i x y fits ∙ P .places;
@@ -96,10 +94,10 @@ module _ (whole : After) (n : ℕ) (trace list₀ : List ℕ) (room : 2 * n ≤ 
   }
     where
       x : ℕ
-      x = d .answer .number
+      x = a .number
 
       y : ℕ
-      y = d .answer .result
+      y = a .result
 
       fits : 2 * i + 2 ≤ length list
       fits = performing-room l
@@ -109,16 +107,16 @@ module _ (whole : After) (n : ℕ) (trace list₀ : List ℕ) (room : 2 * n ≤ 
           let e : 2 * i + 2 ≡ 2 * (i + 1) = omega arith in
           rw (sym e) (sym (drop-drop 2 (2 * i) list) ∙ ap (drop 2) (P .behind) ∙ drop-drop 2 (2 * i) list₀)
 
-      rests : before (take (2 * (i + 1)) l′) (performed (n - (i + 1)) trace ((i + 1) * size) m′ (d .answer .header) s′) ≡ whole
+      rests : before (take (2 * (i + 1)) l′) (performed (n - (i + 1)) trace ((i + 1) * size) m′ (a .header) s′) ≡ whole
       rests =
           let o = commanded (commandAt trace (i * size)) m h s in
-          let same : (m′, s′, d .answer) ≡ o = D .same ∙ ap (λ (k : Command). commanded k m h s) e in
+          let same : (m′, s′, a) ≡ o = D .same ∙ ap (λ (k : Command). commanded k m h s) e in
           let left : n - i - 1 ≡ n - (i + 1) = omega arith in
           let at : i * size + size ≡ (i + 1) * size = omega arith in
           let t : take (2 * (i + 1)) l′ ≡ take (2 * i) list ++ (x ∷ y ∷ []) = ap (take (2 * (i + 1))) w ∙ put-take list i x y fits in
-          ap (λ (l : List ℕ). before l (performed (n - (i + 1)) trace ((i + 1) * size) m′ (d .answer .header) s′)) t
-          ∙ ap (λ (k : ℕ). before (take (2 * i) list ++ (x ∷ y ∷ [])) (performed k trace ((i + 1) * size) m′ (d .answer .header) s′)) (sym left)
-          ∙ ap (λ (k : ℕ). before (take (2 * i) list ++ (x ∷ y ∷ [])) (performed (n - i - 1) trace k m′ (d .answer .header) s′)) (sym at)
+          ap (λ (l : List ℕ). before l (performed (n - (i + 1)) trace ((i + 1) * size) m′ (a .header) s′)) t
+          ∙ ap (λ (k : ℕ). before (take (2 * i) list ++ (x ∷ y ∷ [])) (performed k trace ((i + 1) * size) m′ (a .header) s′)) (sym left)
+          ∙ ap (λ (k : ℕ). before (take (2 * i) list ++ (x ∷ y ∷ [])) (performed (n - i - 1) trace k m′ (a .header) s′)) (sym at)
           ∙ ap (λ (o : List ℕ × List ℕ × Answer). before (take (2 * i) list ++ (o .2 .number ∷ o .2 .result ∷ [])) (performed (n - i - 1) trace (i * size + size) (o .0) (o .2 .header) (o .1))) same
           ∙ ap (λ (l : List ℕ). after (rest′ o .words) (rest′ o .scratch) (rest′ o .header) l) (append-assoc (take (2 * i) list) (o .2 .number ∷ o .2 .result ∷ []) (rest′ o .answers))
           ∙ ap (before (take (2 * i) list)) (sym (performed-step (n - i) trace (i * size) m h s (omega arith)))
@@ -146,11 +144,11 @@ module _ (whole : After) (n : ℕ) (trace list₀ : List ℕ) (room : 2 * n ≤ 
       }
 
   -- handed over where a command found memory ready: what is left is done from there
-  pub performing-rest : {c : Command} {m′ s′ m″ s″ l″ : List ℕ} {r : Begun} {clean : ℕ} {p : Performed} → i < n → c ≡ commandAt trace (i * size)
-      → Starts (commanded c) m h s m′ s′ r → r ≡ Begun.Ready clean
+  pub performing-rest : {c : Command} {m′ s′ m″ s″ l″ : List ℕ} {r : Begun} {p : Performed} → i < n → c ≡ commandAt trace (i * size)
+      → Starts (commanded c) m h s m′ s′ r → r .ready ≡ true
       → Performs (before (take (2 * i) list) (performed (n - i) trace (i * size) m′ h s′)) list m″ s″ l″ p → Performs whole list₀ m″ s″ l″ p
   unfolding written
-  performing-rest {c} {m′} {s′} {m″} {s″} {l″} {r} {clean} {p} l e S f Q = record {
+  performing-rest {c} {m′} {s′} {m″} {s″} {l″} {r} {p} l e S f Q = record {
     words = Q .words ∙ ap (λ (a : After). a .words) all;
     scratch = Q .scratch ∙ ap (λ (a : After). a .scratch) all;
     header = Q .header ∙ ap (λ (a : After). a .header) all;

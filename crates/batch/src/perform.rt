@@ -2,7 +2,6 @@
 use crate::trace::Trace;
 use crate::trace::command_at;
 use command::code::Code;
-use command::command::Begun;
 use command::command::act;
 use command::command::start;
 use command::known::Known;
@@ -95,38 +94,27 @@ pub fn perform(
     ensures { λ r. ⌜ Performs (performed n (now (trace .entry)) 0 (now (words .entry)) h (now (scratch .entry))) (now (list .entry)) (now (words .exit)) (now (scratch .exit)) (now (list .exit)) r ⌝ }
 {
     let arguments = Code::ARGUMENTS;
-    let mut header = h;
     let mut knows = known;
     let mut i = 0;
     while i < n {
         let c = command_at(trace, i * Trace::SIZE);
-        let begun = start(words, header, scratch, knows, &arguments, c);
-        match begun {
-            Begun::Answered(done) => {
-                let answer = done.answer;
-                put_answer(list, i, answer.number, answer.result);
-                let after = answer.header;
-                header = Header {
-                    used: after.used,
-                    first: after.first,
-                    last: after.last,
-                };
-                let known = done.known;
-                let verdict = known.verdict;
-                knows = Known {
-                    looked: known.looked,
-                    verdict,
-                    clean: known.clean,
-                };
-                i += 1;
-            }
-            Begun::Ready(clean) => {
-                return perform_ready(words, header, scratch, clean, trace, i, n, list);
-            }
+        let begun = start(words, h, scratch, knows, &arguments, c);
+        let known = begun.known;
+        if begun.ready {
+            return perform_ready(words, h, scratch, known.clean, trace, i, n, list);
         }
+        let reply = begun.reply;
+        put_answer(list, i, reply.number, reply.result);
+        let verdict = known.verdict;
+        knows = Known {
+            looked: known.looked,
+            verdict,
+            clean: known.clean,
+        };
+        i += 1;
     }
     Performed {
-        header,
+        header: h,
         known: knows,
     }
 }

@@ -25,10 +25,9 @@ use Rattle.command.specs.Kinds.{callBy}
 use Rattle.command.specs.Commands.{Outcome, changed, keeping, called}
 use Rattle.command.specs.Known.{gate, ready, settled, Knows, Gated, Did}
 use Rattle.command.specs.StepLaws.{ready-verdict, gated-settled, did-kept, did-set, did-refused, did-made}
-use Rattle.command.specs.Acts.{acted, freeB, acts, doneBy, Roomed}
+use Rattle.command.specs.Acts.{acted, freeB, Roomed}
 use Rattle.command.specs.declared.call.Call.{Call}
 use Rattle.command.specs.declared.call.Call.the-variants.{Make, Read, Set, LiveCount, DescendantCount, Validate}
-use Rattle.command.specs.declared.command.Done.{Done}
 use Rattle.command.specs.declared.command.Gate.{Gate}
 use Rattle.command.specs.declared.command.Room.{Room}
 use Rattle.examine.specs.declared.chain.Verdict.{Verdict}
@@ -47,14 +46,12 @@ ready-sounds q = rw q refl
 module _ (m : List ℕ) (h : Header) (s : List ℕ) {s′ : List ℕ} {clean : ℕ} (a b : ℕ) where
   -- one that leaves the words alone
   acted-kept : {m′ : List ℕ} {x : Answer} {r : Reply} {w : List ℕ × Reply} → (s′, r) ≡ w → Knows m h s′ (ready clean)
-      → _≡_ {A = List ℕ × Answer} (m′, x) (m, keeping h r) → Did (m, w .0, keeping h (w .1)) m′ s′ (doneBy (acts x clean))
-  acted-kept {m′} e K f = at (ap (λ (p : List ℕ × Answer). p .0) f) (did-kept m h s e K (ap (λ (p : List ℕ × Answer). p .1) f, refl))
-    where
-      at : {w : Outcome} {d : Done} → m′ ≡ m → Did w m s′ d → Did w m′ s′ d
-      at q D = rw q D
+      → _≡_ {A = List ℕ × Answer} (m′, x) (m, keeping h r) → Did (m, w .0, keeping h (w .1)) m′ s′ x (ready clean)
+  acted-kept {m′} {x} {r} {w} e K f =
+      subst (λ (p : List ℕ × Answer). Did (m, w .0, keeping h (w .1)) (p .0) s′ (p .1) (ready clean)) (sym f) (did-kept m h s e K)
 
   acted-guarded : (call : Call) {m′ : List ℕ} {x : Answer} → freeB call ≡ false → Gated m h s s′ (gate DONE (ready clean))
-      → (m′, x) ≡ acted call a b m h → Did (called call a b m h s) m′ s′ (doneBy (acts x clean))
+      → (m′, x) ≡ acted call a b m h → Did (called call a b m h s) m′ s′ x (ready clean)
   unfolding called liveCall
   acted-guarded (Make change) f G e = did-made m h s change a b G refl e
   acted-guarded (Read k) f G e = absurd (false≢true (sym f))
@@ -68,16 +65,16 @@ module _ (m : List ℕ) (h : Header) (s : List ℕ) {s′ : List ℕ} {clean : �
       (ready-sounds (ready-verdict m h R))) (G .knows) e
 
   stopped-guarded : (call : Call) {no : ℕ} → freeB call ≡ false → Gated m h s s′ (gate no (ready clean)) → (no ≡ DONE → ⊥)
-      → Did (called call a b m h s) m s′ (doneBy (acts (answer h no 0) clean))
+      → Did (called call a b m h s) m s′ (answer h no 0) (ready clean)
   unfolding called liveCall
-  stopped-guarded (Make change) f G n = did-refused m h s (changed change a b m h) G n (refl, refl)
+  stopped-guarded (Make change) f G n = did-refused m h s (changed change a b m h) G n
   stopped-guarded (Read k) f G n = absurd (false≢true (sym f))
   stopped-guarded Set f G n = absurd (false≢true (sym f))
   stopped-guarded LiveCount f G n =
-      did-kept m h s (read-stopped m h s (G .scratch) (G .number) (reply DONE (censusOf m h .live)) n) (G .knows) (refl, refl)
+      did-kept m h s (read-stopped m h s (G .scratch) (G .number) (reply DONE (censusOf m h .live)) n) (G .knows)
   stopped-guarded DescendantCount f G n =
-      did-kept m h s (read-stopped m h s (G .scratch) (G .number) (counted m (h .used) a) n) (G .knows) (refl, refl)
-  stopped-guarded Validate {no} f G n = did-kept m h s unfit (G .knows) (refl, refl)
+      did-kept m h s (read-stopped m h s (G .scratch) (G .number) (counted m (h .used) a) n) (G .knows)
+  stopped-guarded Validate {no} f G n = did-kept m h s unfit (G .knows)
     where
       wrong : fitNo (length m) (h .used) (length s) ≡ DONE → ⊥
       wrong d =
@@ -106,19 +103,15 @@ guarded-kind (suc (suc (suc (suc (suc (suc (suc (suc (suc (suc k)))))))))) detai
 
 module _ (m : List ℕ) (h : Header) (s : List ℕ) (detail a b : ℕ) {s′ : List ℕ} {r : Room} where
   pub did-acted : (kind : ℕ) {m′ : List ℕ} {x : Answer} → Roomed kind m h s s′ r → r .number ≡ DONE → (m′, x) ≡ acted (callBy kind detail) a b m h
-      → Did (called (callBy kind detail) a b m h s) m′ s′ (doneBy (acts x (r .clean)))
+      → Did (called (callBy kind detail) a b m h s) m′ s′ x (ready (r .clean))
   unfolding called
   did-acted zero {m′} {x} W d e = acted-kept m h s a b (ap (λ (t : List ℕ). (t, readWord detail m h a)) (W .free (omega arith) .1)) (W .knows) e
   did-acted (suc zero) {m′} {x} W d e =
+      let w = setNumber m h a b in
       let q : s′ ≡ s = W .free (omega arith) .1 in
-      let m″ : m′ ≡ setNumber m h a b .0 = ap (λ (p : List ℕ × Answer). p .0) e in
-      at q (did-set m h s a b (ap (λ (t : List ℕ). (t, setNumber m h a b .1)) m″) (known q) (ap (λ (p : List ℕ × Answer). p .1) e, refl))
-    where
-      at : {w : Outcome} {dn : Done} → s′ ≡ s → Did w m′ s dn → Did w m′ s′ dn
-      at q D = rw q D
-
-      known : s′ ≡ s → Knows m h s (ready (r .clean))
-      known q = subst (λ (t : List ℕ). Knows m h t (ready (r .clean))) q (W .knows)
+      let K : Knows m h s (ready (r .clean)) = subst (λ (t : List ℕ). Knows m h t (ready (r .clean))) q (W .knows) in
+      let D : Did (w .0, s, keeping h (w .1)) (w .0) s (keeping h (w .1)) (ready (r .clean)) = did-set m h s a b refl K in
+      rw (q, ap (λ (p : List ℕ × Answer). p .0) e, ap (λ (p : List ℕ × Answer). p .1) e) D
   did-acted (suc (suc k)) W d e =
       acted-guarded m h s a b (callBy (suc (suc k)) detail) (guarded-kind k detail) (at d (W .asked (omega arith))) e
     where
@@ -126,7 +119,7 @@ module _ (m : List ℕ) (h : Header) (s : List ℕ) (detail a b : ℕ) {s′ : L
       at q G = subst (λ (no : ℕ). Gated m h s s′ (gate no (ready (r .clean)))) q G
 
   pub did-stopped : (kind : ℕ) → Roomed kind m h s s′ r → (r .number ≡ DONE → ⊥)
-      → Did (called (callBy kind detail) a b m h s) m s′ (doneBy (acts (answer h (r .number) 0) (r .clean)))
+      → Did (called (callBy kind detail) a b m h s) m s′ (answer h (r .number) 0) (ready (r .clean))
   did-stopped zero W n = absurd (n (W .free (omega arith) .0))
   did-stopped (suc zero) W n = absurd (n (W .free (omega arith) .0))
   did-stopped (suc (suc k)) W n = stopped-guarded m h s a b (callBy (suc (suc k)) detail) (guarded-kind k detail) (W .asked (omega arith)) n

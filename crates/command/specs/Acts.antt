@@ -6,8 +6,9 @@ use mathlib.Core.List.{List}
 use Prim.Native.Nat.{ℕ, _≤_, _<_}
 use lib.ListN.{length}
 use Rattle.link.specs.declared.header.Header.{Header}
-use Rattle.rules.specs.Answers.{DONE, answer}
+use Rattle.rules.specs.Answers.{DONE, reply, answer}
 use Rattle.rules.specs.declared.answer.Answer.{Answer}
+use Rattle.rules.specs.declared.answer.Reply.{Reply}
 use Rattle.arena.specs.Reads.{readWord, setNumber}
 use Rattle.arena.specs.Census.{censusOf}
 use Rattle.lists.specs.Listing.{counted}
@@ -15,9 +16,8 @@ use Rattle.command.specs.Commands.{Outcome, changed, keeping}
 use Rattle.command.specs.Known.{ready, gate, Knows, Gated, Did}
 use Rattle.command.specs.declared.call.Call.{Call}
 use Rattle.command.specs.declared.call.Call.the-variants.{Make, Read, Set, LiveCount, DescendantCount, Validate}
-use Rattle.command.specs.declared.command.Done.{Done}
+use Rattle.command.specs.declared.known.Known.{Known}
 use Rattle.command.specs.declared.command.Begun.{Begun}
-use Rattle.command.specs.declared.command.Begun.the-variants.{Answered, Ready}
 use Rattle.command.specs.declared.command.Room.{Room}
 use Rattle.command.specs.declared.command.Acted.{Acted}
 
@@ -42,20 +42,22 @@ freeB Validate = false
 abbrev pub acts : Answer → ℕ → Acted
 acts answer clean = record { answer = answer; clean = clean }
 
--- What was done on ready memory, as what a command leaves: memory is known to be ready still.
-abbrev pub doneBy : Acted → Done
-doneBy r = record { answer = r .answer; known = ready (r .clean) }
+abbrev pub replies : Reply → Known → Begun
+replies reply known = record { ready = false; reply = reply; known = known }
+
+abbrev pub readies : Known → Begun
+readies known = record { ready = true; reply = reply DONE 0; known = known }
 
 -- After the guard of a command that needs ready memory: refused by it, or let through.
 pub record Enters (m : List ℕ) (h : Header) (s s′ : List ℕ) (r : Begun) : Type 0 where
-  pub answered : (d : Done) → r ≡ Answered d
-      → Gated m h s s′ (gate (d .answer .number) (d .known)) × (d .answer ≡ answer h (d .answer .number) 0) × (d .answer .number ≡ DONE → ⊥)
-  pub readied : (clean : ℕ) → r ≡ Ready clean → Gated m h s s′ (gate DONE (ready clean))
+  pub answered : r .ready ≡ false
+      → Gated m h s s′ (gate (r .reply .number) (r .known)) × (r .reply .result ≡ 0) × (r .reply .number ≡ DONE → ⊥)
+  pub readied : r .ready ≡ true → Gated m h s s′ (gate DONE (ready (r .known .clean)))
 
 -- After the start of a command: its outcome; or memory is ready, and doing it now has the outcome that it had before.
 pub record Starts (outcome : List ℕ → Header → List ℕ → Outcome) (m : List ℕ) (h : Header) (s m′ s′ : List ℕ) (r : Begun) : Type 0 where
-  pub answered : (d : Done) → r ≡ Answered d → Did (outcome m h s) m′ s′ d
-  pub readied : (clean : ℕ) → r ≡ Ready clean → (m′ ≡ m) × (outcome m h s′ ≡ outcome m h s) × Knows m h s′ (ready clean)
+  pub answered : r .ready ≡ false → Did (outcome m h s) m′ s′ (keeping h (r .reply)) (r .known)
+  pub readied : r .ready ≡ true → (m′ ≡ m) × (outcome m h s′ ≡ outcome m h s) × Knows m h s′ (ready (r .known .clean))
 
 -- After the guard on ready memory: none for a read or a set, whose kinds are 0 and 1.
 pub record Roomed (kind : ℕ) (m : List ℕ) (h : Header) (s s′ : List ℕ) (r : Room) : Type 0 where

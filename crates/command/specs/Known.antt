@@ -7,6 +7,7 @@ use lib.Dec.{leb}
 use lib.ListN.{length}
 use Rattle.link.specs.Words.{capacityOf}
 use Rattle.link.specs.declared.header.Header.{Header}
+use Rattle.rules.specs.declared.answer.Answer.{Answer}
 use Rattle.examine.specs.Scratch.{zeroed}
 use Rattle.examine.specs.Verdicts.{readyB}
 use Rattle.examine.specs.Examination.{examined}
@@ -15,7 +16,6 @@ use Rattle.sound.specs.Guard.{scratchAfter, guardNo}
 use Rattle.command.specs.Commands.{Outcome}
 use Rattle.command.specs.declared.known.Known.{Known}
 use Rattle.command.specs.declared.command.Gate.{Gate}
-use Rattle.command.specs.declared.command.Done.{Done}
 
 -- Where it has looked, the slots in use fit the memory, and the verdict is the memory's; and the first `clean` scratch words are zero.
 pub record Knows (m : List ℕ) (h : Header) (scratch : List ℕ) (k : Known) : Type 0 where
@@ -57,6 +57,6 @@ pub record Gated (m : List ℕ) (h : Header) (before after : List ℕ) (g : Gate
   pub knows : Knows m h after (g .known)
 
 -- After a command: the outcome, and what is known of the memory with the header answered.
-pub record Did (outcome : Outcome) (m s : List ℕ) (d : Done) : Type 0 where
-  pub same : (m, s, d .answer) ≡ outcome
-  pub knows : Knows m (d .answer .header) s (d .known)
+pub record Did (outcome : Outcome) (m s : List ℕ) (a : Answer) (k : Known) : Type 0 where
+  pub same : (m, s, a) ≡ outcome
+  pub knows : Knows m (a .header) s k

@@ -24,16 +24,14 @@ use Rattle.command.specs.Codes.{acceptable}
 use Rattle.command.specs.Known.{gate, ready, knownReady, Knows, Gated, Did}
 use Rattle.command.specs.KnownLaws.{zeroed-length, zeroed-again}
 use Rattle.command.specs.StepLaws.{ready-told, ready-verdict, gated-ready, did-kept, did-refused}
-use Rattle.command.specs.Acts.{Enters, Starts}
+use Rattle.command.specs.Acts.{replies, readies, Enters, Starts}
 use Rattle.command.specs.declared.call.Change.{Change}
 use Rattle.command.specs.declared.call.Call.{Call}
-use Rattle.command.specs.declared.call.Call.the-variants.{Make, LiveCount, DescendantCount}
+use Rattle.command.specs.declared.call.Call.the-variants.{Make, LiveCount, DescendantCount, Validate}
 use Rattle.command.specs.declared.known.Known.{Known}
 use Rattle.command.specs.declared.command.Command.{Command}
-use Rattle.command.specs.declared.command.Done.{Done}
 use Rattle.command.specs.declared.command.Gate.{Gate}
 use Rattle.command.specs.declared.command.Begun.{Begun}
-use Rattle.command.specs.declared.command.Begun.the-variants as Begun
 
 module _ (m : List ℕ) (h : Header) (s : List ℕ) where
   -- known to be ready, whatever else is carried along
@@ -76,68 +74,40 @@ module _ (m : List ℕ) (h : Header) (s : List ℕ) where
   unfolding guardedRead
   read-again work = rw (kept-length, kept-again) refl
 
--- what was begun is answered or ready, not both
-answered? : Begun → Bool
-answered? (Begun.Answered d) = true
-answered? (Begun.Ready clean) = false
-
-done-in : Done → Begun → Done
-done-in x (Begun.Answered d) = d
-done-in x (Begun.Ready clean) = x
-
-clean-in : Begun → ℕ
-clean-in (Begun.Answered d) = 0
-clean-in (Begun.Ready clean) = clean
-
-apart : {d : Done} {clean : ℕ} → Begun.Answered d ≡ Begun.Ready clean → ⊥
-unfolding answered?
-apart e = false≢true (sym (ap answered? e))
-
-same-done : {x d : Done} → Begun.Answered x ≡ Begun.Answered d → x ≡ d
-unfolding done-in
-same-done {x} e = ap (done-in x) e
-
-same-clean : {x n : ℕ} → Begun.Ready x ≡ Begun.Ready n → x ≡ n
-unfolding clean-in
-same-clean e = ap clean-in e
-
 -- the guard let a command through: memory is known to be ready
-pub entered-ready : (m : List ℕ) (h : Header) (s : List ℕ) {s′ : List ℕ} {g : Gate} → Gated m h s s′ g → g .number ≡ DONE
-    → Enters m h s s′ (Begun.Ready (g .known .clean))
-entered-ready m h s {s′} {g} G d =
-    record { answered = λ x e. absurd (apart (sym e)); readied = λ n e. subst (λ (n : ℕ). Gated m h s s′ (gate DONE (ready n))) (same-clean e) through }
-  where
-    through : Gated m h s s′ (gate DONE (ready (g .known .clean)))
-    through =
-        let (R, fits) = gated-ready m h s G d in
-        record {
-          scratch = G .scratch;
-          number = sym d ∙ G .number;
-          knows = record { frame = λ _. fits; verdict = λ _. sym (ready-verdict m h R); zeros = G .knows .zeros; fits = G .knows .fits };
-        }
+pub entered-ready : (m : List ℕ) (h : Header) (s : List ℕ) {s′ : List ℕ} {g : Gate} {r : Begun} → Gated m h s s′ g → g .number ≡ DONE
+    → r ≡ readies (g .known) → Enters m h s s′ r
+entered-ready m h s {s′} {g} G d e =
+    let (R, fits) = gated-ready m h s G d in
+    rw e (record {
+      answered = λ q. absurd (false≢true (sym q));
+      readied = λ _. record {
+        scratch = G .scratch;
+        number = sym d ∙ G .number;
+        knows = record { frame = λ _. fits; verdict = λ _. sym (ready-verdict m h R); zeros = G .knows .zeros; fits = G .knows .fits };
+      };
+    })
 
 -- and where it refused
-pub entered-refused : (m : List ℕ) (h : Header) (s : List ℕ) {s′ : List ℕ} {g : Gate} {d : Done} → Gated m h s s′ g → (g .number ≡ DONE → ⊥)
-    → (d .answer ≡ answer h (g .number) 0) × (d .known ≡ g .known) → Enters m h s s′ (Begun.Answered d)
-entered-refused m h s {s′} {g} {d} G n (p, q) =
-    record { answered = λ x e. subst Refused (same-done e) refused; readied = λ n e. absurd (apart e) }
-  where
-    Refused : Done → Type 0
-    Refused x = Gated m h s s′ (gate (x .answer .number) (x .known)) × (x .answer ≡ answer h (x .answer .number) 0) × (x .answer .number ≡ DONE → ⊥)
-
-    refused : Refused d
-    refused =
-        let e : d .answer .number ≡ g .number = ap (λ (x : Answer). x .number) p in
-        (rw (e, q) G, p ∙ ap (λ (no : ℕ). answer h no 0) (sym e), λ t. n (sym e ∙ t))
+pub entered-refused : (m : List ℕ) (h : Header) (s : List ℕ) {s′ : List ℕ} {g : Gate} {r : Begun} → Gated m h s s′ g → (g .number ≡ DONE → ⊥)
+    → r ≡ replies (reply (g .number) 0) (g .known) → Enters m h s s′ r
+entered-refused m h s G n e = rw e (record { answered = λ _. (G, refl, n); readied = λ q. absurd (false≢true q) })
 
 -- the start of the three that need ready memory
 module _ (m : List ℕ) (h : Header) (s : List ℕ) {s′ : List ℕ} (a b : ℕ) {r : Begun} (E : Enters m h s s′ r) where
+  -- a refusal, with its result
+  stopped : {w : Outcome} → r .ready ≡ false → ((no : ℕ) → Gated m h s s′ (gate no (r .known)) → (no ≡ DONE → ⊥) → Did w m s′ (answer h no 0) (r .known))
+      → Did w m s′ (keeping h (r .reply)) (r .known)
+  stopped {w} f D =
+      let (G, z, n) = E .answered f in
+      subst (λ (x : ℕ). Did w m s′ (answer h (r .reply .number) x) (r .known)) (sym z) (D (r .reply .number) G n)
+
   pub starts-make : (change : Change) → Starts (called (Make change) a b) m h s m s′ r
   unfolding called
   starts-make change = record {
-    answered = λ d e. let (G, p, n) = E .answered d e in did-refused m h s (changed change a b m h) G n (p, refl);
-    readied = λ clean e.
-        let G = E .readied clean e in
+    answered = λ f. stopped f (λ no G n. did-refused m h s (changed change a b m h) G n);
+    readied = λ t.
+        let G = E .readied t in
         (refl, ap (λ (t : List ℕ). guarded m h t (changed change a b m h)) (G .scratch) ∙ guarded-again m h s (changed change a b m h), G .knows);
   }
 
@@ -147,37 +117,39 @@ module _ (m : List ℕ) (h : Header) (s : List ℕ) {s′ : List ℕ} (a b : ℕ
   count-again work e =
       ap (λ (w : List ℕ × Reply). (m, w .0, keeping h (w .1))) (ap (λ (t : List ℕ). guardedRead m h t work) e ∙ read-again m h s work)
 
+  count-stopped : (work : Reply) → r .ready ≡ false
+      → Did (let w = guardedRead m h s work in (m, w .0, keeping h (w .1))) m s′ (keeping h (r .reply)) (r .known)
+  count-stopped work f = stopped f (λ no G n. did-kept m h s (read-stopped m h s (G .scratch) (G .number) work n) (G .knows))
+
   pub starts-live : Starts (called LiveCount a b) m h s m s′ r
   unfolding called liveCall
   starts-live = record {
-    answered = λ d e.
-        let (G, p, n) = E .answered d e in
-        did-kept m h s (read-stopped m h s (G .scratch) (G .number) (reply DONE (censusOf m h .live)) n) (G .knows) (p, refl);
-    readied = λ clean e. let G = E .readied clean e in (refl, count-again (reply DONE (censusOf m h .live)) (G .scratch), G .knows);
+    answered = count-stopped (reply DONE (censusOf m h .live));
+    readied = λ t. let G = E .readied t in (refl, count-again (reply DONE (censusOf m h .live)) (G .scratch), G .knows);
   }
 
   pub starts-below : Starts (called DescendantCount a b) m h s m s′ r
   unfolding called
   starts-below = record {
-    answered = λ d e.
-        let (G, p, n) = E .answered d e in
-        did-kept m h s (read-stopped m h s (G .scratch) (G .number) (counted m (h .used) a) n) (G .knows) (p, refl);
-    readied = λ clean e. let G = E .readied clean e in (refl, count-again (counted m (h .used) a) (G .scratch), G .knows);
+    answered = count-stopped (counted m (h .used) a);
+    readied = λ t. let G = E .readied t in (refl, count-again (counted m (h .used) a) (G .scratch), G .knows);
   }
 
+-- the validator has no arguments
+pub starts-validate : (m : List ℕ) (h : Header) (s : List ℕ) {s′ : List ℕ} (a b : ℕ) {r : Begun} → Starts (called Validate 0 0) m h s m s′ r
+    → Starts (called Validate a b) m h s m s′ r
+unfolding called
+starts-validate m h s a b S = record { answered = S .answered; readied = S .readied }
+
 -- answered
-pub starts-answered : (outcome : List ℕ → Header → List ℕ → Outcome) (m : List ℕ) (h : Header) (s : List ℕ) {m′ s′ : List ℕ} {d : Done}
-    → Did (outcome m h s) m′ s′ d → Starts outcome m h s m′ s′ (Begun.Answered d)
-starts-answered outcome m h s {m′} {s′} D =
-    record { answered = λ x e. subst (λ (x : Done). Did (outcome m h s) m′ s′ x) (same-done e) D; readied = λ n e. absurd (apart e) }
+pub starts-answered : (outcome : List ℕ → Header → List ℕ → Outcome) (m : List ℕ) (h : Header) (s : List ℕ) {m′ s′ : List ℕ} {x : Reply} {k : Known} {r : Begun}
+    → r ≡ replies x k → Did (outcome m h s) m′ s′ (keeping h x) k → Starts outcome m h s m′ s′ r
+starts-answered outcome m h s e D = rw e (record { answered = λ _. D; readied = λ q. absurd (false≢true q) })
 
 -- ready from the first
-pub starts-ready : (c : Command) (m : List ℕ) (h : Header) (s : List ℕ) {k : Known} → Knows m h s k → knownReady k ≡ true
-    → Starts (commanded c) m h s m s (Begun.Ready (k .clean))
-starts-ready c m h s K e = record {
-  answered = λ x q. absurd (apart (sym q));
-  readied = λ n q. (refl, refl, subst (λ (n : ℕ). Knows m h s (ready n)) (same-clean q) (known-ready m h s K e));
-}
+pub starts-ready : (c : Command) (m : List ℕ) (h : Header) (s : List ℕ) {k : Known} {r : Begun} → r ≡ readies k → Knows m h s k → knownReady k ≡ true
+    → Starts (commanded c) m h s m s r
+starts-ready c m h s e K t = rw e (record { answered = λ q. absurd (false≢true (sym q)); readied = λ _. (refl, refl, known-ready m h s K t) })
 
 -- the call that was asked for, and COMMAND first
 pub starts-same : (m : List ℕ) (h : Header) (s : List ℕ) {m′ s′ : List ℕ} (a b : ℕ) {r : Begun} {x y : Call} → x ≡ y
@@ -188,16 +160,13 @@ pub starts-accepted : (c : Command) (m : List ℕ) (h : Header) (s : List ℕ) {
     → acceptable (c .code) (c .unused) (c .a) (c .b) ≡ true → Starts (called (callOf (c .code)) (c .a) (c .b)) m h s m′ s′ r
     → Starts (commanded c) m h s m′ s′ r
 unfolding commanded
-starts-accepted c m h s e S = record {
-  answered = λ d q. rw e (S .answered d q);
-  readied = λ n q. rw e (S .readied n q);
-}
+starts-accepted c m h s e S = record { answered = λ q. rw e (S .answered q); readied = λ q. rw e (S .readied q) }
 
 -- memory is ready: the command is still to be done, and has the outcome that it had
 module _ {outcome : List ℕ → Header → List ℕ → Outcome} {m : List ℕ} {h : Header} {s m′ s′ : List ℕ} {r : Begun} (S : Starts outcome m h s m′ s′ r)
-    {clean : ℕ} (e : r ≡ Begun.Ready clean) where
-  pub readied-knows : Knows m′ h s′ (ready clean)
-  readied-knows = let (q, w, K) = S .readied clean e in subst (λ (x : List ℕ). Knows x h s′ (ready clean)) (sym q) K
+    (e : r .ready ≡ true) where
+  pub readied-knows : Knows m′ h s′ (ready (r .known .clean))
+  readied-knows = let (q, w, K) = S .readied e in subst (λ (x : List ℕ). Knows x h s′ (ready (r .known .clean))) (sym q) K
 
   pub readied-same : outcome m′ h s′ ≡ outcome m h s
-  readied-same = let (q, w, K) = S .readied clean e in ap (λ (x : List ℕ). outcome x h s′) q ∙ w
+  readied-same = let (q, w, K) = S .readied e in ap (λ (x : List ℕ). outcome x h s′) q ∙ w

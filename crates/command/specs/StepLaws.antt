@@ -33,7 +33,6 @@ use Rattle.command.specs.declared.call.Change.{Change}
 use Rattle.command.specs.declared.known.Known.{Known}
 use Rattle.command.specs.declared.command.Command.{Command}
 use Rattle.command.specs.declared.command.Gate.{Gate}
-use Rattle.command.specs.declared.command.Done.{Done}
 use Rattle.examine.specs.declared.chain.Verdict.the-variants as Is
 
 -- ready memory has one verdict
@@ -94,42 +93,36 @@ gated-ready m h s G d =
     let w = guard-ready m h (length s) .0 (passed m h s (G .scratch) (G .number) d) in
     (w .2, w .0)
 
-pub did-same : {w w′ : Outcome} {m s : List ℕ} {d : Done} → w ≡ w′ → Did w m s d → Did w′ m s d
+pub did-same : {w w′ : Outcome} {m s : List ℕ} {a : Answer} {k : Known} → w ≡ w′ → Did w m s a k → Did w′ m s a k
 did-same e D = record { same = D .same ∙ e; knows = D .knows }
 
-module _ (m : List ℕ) (h : Header) (s : List ℕ) {d : Done} where
+module _ (m : List ℕ) (h : Header) (s : List ℕ) where
   -- a call that leaves words and header alone
   pub did-kept : {s′ : List ℕ} {k : Known} {w : List ℕ × Reply} {r : Reply} → (s′, r) ≡ w → Knows m h s′ k
-      → (d .answer ≡ keeping h r) × (d .known ≡ k) → Did (m, w .0, keeping h (w .1)) m s′ d
-  did-kept {s′} e K (p, q) = record {
-    same = ap (λ (a : Answer). (m, s′, a)) p ∙ ap (λ (w : List ℕ × Reply). (m, w .0, keeping h (w .1))) e;
-    knows = rw (p, q) K;
-  }
+      → Did (m, w .0, keeping h (w .1)) m s′ (keeping h r) k
+  did-kept e K = record { same = ap (λ (w : List ℕ × Reply). (m, w .0, keeping h (w .1))) e; knows = K }
 
   -- set keeps the verdict
   pub did-set : {m′ : List ℕ} {k : Known} {r : Reply} (id v : ℕ) → (m′, r) ≡ setNumber m h id v → Knows m h s k
-      → (d .answer ≡ keeping h r) × (d .known ≡ k) → Did (setNumber m h id v .0, s, keeping h (setNumber m h id v .1)) m′ s d
-  did-set {m′} {k} id v e K (p, q) = record {
-    same = ap (λ (a : Answer). (m′, s, a)) p ∙ ap (λ (w : List ℕ × Reply). (w .0, s, keeping h (w .1))) e;
-    knows = rw (p, q) (record {
+      → Did (setNumber m h id v .0, s, keeping h (setNumber m h id v .1)) m′ s (keeping h r) k
+  did-set {m′} {k} id v e K = record {
+    same = ap (λ (w : List ℕ × Reply). (w .0, s, keeping h (w .1))) e;
+    knows = record {
       frame = λ l. rw (ap (λ (w : List ℕ × Reply). length (w .0)) e ∙ set-length m h id v) (K .frame l);
       verdict = λ l. K .verdict l ∙ sym (ap (λ (w : List ℕ × Reply). examined (w .0) h) e ∙ set-examined m h id v);
       zeros = K .zeros;
       fits = K .fits;
-    });
+    };
   }
 
   pub did-refused : {s′ : List ℕ} {g : Gate} (work : List ℕ × Answer) → Gated m h s s′ g → (g .number ≡ DONE → ⊥)
-      → (d .answer ≡ answer h (g .number) 0) × (d .known ≡ g .known) → Did (guarded m h s work) m s′ d
-  did-refused {s′} work G n (p, q) = record {
-    same = ap (λ (a : Answer). (m, s′, a)) p ∙ guarded-refused m h s (G .scratch) (G .number) work n;
-    knows = rw (p, q) (G .knows);
-  }
+      → Did (guarded m h s work) m s′ (answer h (g .number) 0) (g .known)
+  did-refused work G n = record { same = guarded-refused m h s (G .scratch) (G .number) work n; knows = G .knows }
 
 -- ready memory stays ready
 pub did-made : (m : List ℕ) (h : Header) (s : List ℕ) {m′ s′ : List ℕ} {g : Gate} {r : Answer} (change : Change) (a b : ℕ)
     → Gated m h s s′ g → g .number ≡ DONE → (m′, r) ≡ changed change a b m h
-    → Did (guarded m h s (changed change a b m h)) m′ s′ (record { answer = r; known = g .known })
+    → Did (guarded m h s (changed change a b m h)) m′ s′ r (g .known)
 did-made m h s {m′} {s′} {g} {r} change a b G n e = record {
   same = guarded-done m h s (G .scratch) (G .number) n e;
   knows = record {
@@ -151,12 +144,12 @@ did-made m h s {m′} {s′} {g} {r} change a b G n e = record {
 
 -- COMMAND first
 module _ (c : Command) (m : List ℕ) (h : Header) (s : List ℕ) where
-  pub did-accepted : {m′ s′ : List ℕ} {d : Done} → acceptable (c .code) (c .unused) (c .a) (c .b) ≡ true
-      → Did (called (callOf (c .code)) (c .a) (c .b) m h s) m′ s′ d → Did (commanded c m h s) m′ s′ d
+  pub did-accepted : {m′ s′ : List ℕ} {a : Answer} {k : Known} → acceptable (c .code) (c .unused) (c .a) (c .b) ≡ true
+      → Did (called (callOf (c .code)) (c .a) (c .b) m h s) m′ s′ a k → Did (commanded c m h s) m′ s′ a k
   unfolding commanded
   did-accepted e D = rw e D
 
-  pub did-rejected : {k : Known} {d : Done} → acceptable (c .code) (c .unused) (c .a) (c .b) ≡ false → Knows m h s k
-      → (d .answer ≡ answer h COMMAND 0) × (d .known ≡ k) → Did (commanded c m h s) m s d
+  pub did-rejected : {k : Known} → acceptable (c .code) (c .unused) (c .a) (c .b) ≡ false → Knows m h s k
+      → Did (commanded c m h s) m s (answer h COMMAND 0) k
   unfolding commanded
-  did-rejected e K (p, q) = rw e (record { same = ap (λ (a : Answer). (m, s, a)) p; knows = rw (p, q) K })
+  did-rejected e K = rw e (record { same = refl; knows = K })

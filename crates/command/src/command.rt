@@ -22,13 +22,13 @@ use sound::fit;
 use sound::ready_number;
 use sound::sound_result;
 ghost use mathlib.Core.Path.{_≡_};
-ghost use Rattle.rules.specs.Answers.{answer};
+ghost use Rattle.rules.specs.Answers.{reply, answer};
 ghost use Rattle.sound.specs.Guard.{readyNo};
 ghost use Rattle.command.specs.Codes.{argumentTable};
 ghost use Rattle.command.specs.Kinds.{kindTable, detailTable};
-ghost use Rattle.command.specs.Commands.{keeping, called, commanded};
+ghost use Rattle.command.specs.Commands.{called, commanded};
 ghost use Rattle.command.specs.Known.{ready, Knows, Gated, Did};
-ghost use Rattle.command.specs.Acts.{acts, doneBy, Enters, Starts, Roomed};
+ghost use Rattle.command.specs.Acts.{acts, replies, readies, Enters, Starts, Roomed};
 ghost use Rattle.command.specs.declared.call.Call.the-variants as Calls;
 
 // Twelve bytes of a trace: the code, its three unused bytes as one number, and the two arguments.
@@ -45,16 +45,12 @@ pub struct Gate {
     pub known: Known,
 }
 
-// What a command answers, and what is known then.
-pub struct Done {
-    pub answer: Answer,
+// What comes of starting a command: its answer, but for the header, which stays; or memory is ready and the command is still to be done.
+// And what is known then.
+pub struct Begun {
+    pub ready: bool,
+    pub reply: Reply,
     pub known: Known,
-}
-
-// What comes of starting a command: its answer; or memory is ready, so many scratch words are known to be zero, and it is to be done.
-pub enum Begun {
-    Answered(Done),
-    Ready(usize),
 }
 
 // What the guard says on ready memory, and how many scratch words are known to be zero then.
@@ -69,23 +65,34 @@ pub struct Acted {
     pub clean: usize,
 }
 
-// The answer of a call that leaves the header alone.
-fn keep(h: Header, r: Reply, known: Known) -> Done
-    ensures { λ d. ⌜ (d .answer ≡ keeping h r) × (d .known ≡ known) ⌝ }
+fn replied(reply: Reply, known: Known) -> Begun
+    ensures { λ r. ⌜ r ≡ replies reply known ⌝ }
 {
-    let answer = Answer {
-        header: h,
-        number: r.number,
-        result: r.result,
-    };
-    Done { answer, known }
+    Begun {
+        ready: false,
+        reply,
+        known,
+    }
 }
 
-fn refuse(h: Header, number: u32, known: Known) -> Done
-    ensures { λ d. ⌜ (d .answer ≡ answer h number 0) × (d .known ≡ known) ⌝ }
+fn refused(number: u32, known: Known) -> Begun
+    ensures { λ r. ⌜ r ≡ replies (reply number 0) known ⌝ }
 {
-    let r = Reply { number, result: 0 };
-    keep(h, r, known)
+    replied(Reply { number, result: 0 }, known)
+}
+
+fn readied(known: Known) -> Begun
+    ensures { λ r. ⌜ r ≡ readies known ⌝ }
+{
+    let reply = Reply {
+        number: Number::DONE,
+        result: 0,
+    };
+    Begun {
+        ready: true,
+        reply,
+        known,
+    }
 }
 
 // What the guard says of memory that fits, by the verdict.
@@ -116,21 +123,21 @@ fn pass(words: &[u32], h: Header, scratch: &mut [u32], known: Known) -> Gate
 }
 
 // Sound or not: the verdict, where memory fits.
-fn judge(words: &[u32], h: Header, scratch: &mut [u32], known: Known) -> Done
+fn judge(words: &[u32], h: Header, scratch: &mut [u32], known: Known) -> Begun
     requires { ⌜ Knows (now words) h (now scratch) known ⌝ }
-    ensures { λ r. ⌜ Did (called Calls.Validate 0 0 (now (words .entry)) h (now (scratch .entry))) (now (words .entry)) (now (scratch .exit)) r ⌝ }
+    ensures { λ r. ⌜ Starts (called Calls.Validate 0 0) (now (words .entry)) h (now (scratch .entry)) (now (words .entry)) (now (scratch .exit)) r ⌝ }
 {
     let number = fit(words, h.used, scratch);
     if number == Number::DONE {
         let after = look(words, h, scratch, known);
         let verdict = after.verdict;
-        let r = Reply {
+        let reply = Reply {
             number,
             result: sound_result(verdict),
         };
-        return keep(h, r, after);
+        return replied(reply, after);
     }
-    refuse(h, number, known)
+    refused(number, known)
 }
 
 // A command that needs ready memory: refused, or memory is ready now.
@@ -141,9 +148,9 @@ fn enter(words: &[u32], h: Header, scratch: &mut [u32], known: Known) -> Begun
     let gate = pass(words, h, scratch, known);
     let known = gate.known;
     if gate.number == Number::DONE {
-        return Begun::Ready(known.clean);
+        return readied(known);
     }
-    Begun::Answered(refuse(h, gate.number, known))
+    refused(gate.number, known)
 }
 
 fn begin(
@@ -160,11 +167,11 @@ fn begin(
 {
     match call {
         Call::Make(change) => enter(words, h, scratch, known),
-        Call::Read(k) => Begun::Answered(keep(h, read(words, h, a, k), known)),
-        Call::Set => Begun::Answered(keep(h, set(words, h, a, b), known)),
+        Call::Read(k) => replied(read(words, h, a, k), known),
+        Call::Set => replied(set(words, h, a, b), known),
         Call::LiveCount => enter(words, h, scratch, known),
         Call::DescendantCount => enter(words, h, scratch, known),
-        Call::Validate => Begun::Answered(judge(words, h, scratch, known)),
+        Call::Validate => judge(words, h, scratch, known),
     }
 }
 
@@ -181,16 +188,16 @@ pub fn start(
     ensures { λ r. ⌜ Starts (commanded c) (now (words .entry)) h (now (scratch .entry)) (now (words .exit)) (now (scratch .exit)) r ⌝ }
 {
     if is_ready(known) {
-        return Begun::Ready(known.clean);
+        return readied(known);
     }
     match c.code {
         Code::NEW..=Code::LAST => {
             if is_acceptable(arguments, c.code, c.unused, c.a, c.b) {
                 return begin(words, h, scratch, known, call_of(c.code), c.a, c.b);
             }
-            Begun::Answered(refuse(h, Number::COMMAND, known))
+            refused(Number::COMMAND, known)
         }
-        _ => Begun::Answered(refuse(h, Number::COMMAND, known)),
+        _ => refused(Number::COMMAND, known),
     }
 }
 
@@ -219,7 +226,7 @@ fn admit(words: &[u32], h: Header, scratch: &mut [u32], clean: usize, kind: u8) 
     }
 }
 
-fn refused(h: Header, number: u32, clean: usize) -> Acted
+fn turn_down(h: Header, number: u32, clean: usize) -> Acted
     ensures { λ r. ⌜ r ≡ acts (answer h number 0) clean ⌝ }
 {
     let answer = Answer {
@@ -242,7 +249,7 @@ pub fn act(
     c: Command,
 ) -> Acted
     requires { ⌜ Knows (now words) h (now scratch) (ready clean) × (now arguments ≡ argumentTable) × (now kinds ≡ kindTable) × (now details ≡ detailTable) ⌝ }
-    ensures { λ r. ⌜ Did (commanded c (now (words .entry)) h (now (scratch .entry))) (now (words .exit)) (now (scratch .exit)) (doneBy r) ⌝ }
+    ensures { λ r. ⌜ Did (commanded c (now (words .entry)) h (now (scratch .entry))) (now (words .exit)) (now (scratch .exit)) (r .answer) (ready (r .clean)) ⌝ }
 {
     match c.code {
         Code::NEW..=Code::LAST => {
@@ -257,11 +264,11 @@ pub fn act(
                         clean: room.clean,
                     };
                 }
-                return refused(h, room.number, room.clean);
+                return turn_down(h, room.number, room.clean);
             }
-            refused(h, Number::COMMAND, clean)
+            turn_down(h, Number::COMMAND, clean)
         }
-        _ => refused(h, Number::COMMAND, clean),
+        _ => turn_down(h, Number::COMMAND, clean),
     }
 }
 
@@ -271,13 +278,26 @@ pub fn one_command(words: &mut [u32], h: Header, scratch: &mut [u32], c: Command
 {
     let arguments = Code::ARGUMENTS;
     let begun = start(words, h, scratch, nothing(), &arguments, c);
-    match begun {
-        Begun::Answered(done) => done.answer,
-        Begun::Ready(clean) => {
-            let kinds = Code::KINDS;
-            let details = Code::DETAILS;
-            let acted = act(words, h, scratch, clean, &arguments, &kinds, &details, c);
-            acted.answer
-        }
+    if begun.ready {
+        let known = begun.known;
+        let kinds = Code::KINDS;
+        let details = Code::DETAILS;
+        let acted = act(
+            words,
+            h,
+            scratch,
+            known.clean,
+            &arguments,
+            &kinds,
+            &details,
+            c,
+        );
+        return acted.answer;
+    }
+    let reply = begun.reply;
+    Answer {
+        header: h,
+        number: reply.number,
+        result: reply.result,
     }
 }

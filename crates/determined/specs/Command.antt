@@ -1,18 +1,17 @@
 -- Crate command: the code table, one command, what a batch remembers. Its public functions, each with one outcome; of those that remember
 -- something of the memory, all but that. Excluded: a command that answers as it likes where its code is unknown.
 use mathlib.Core.Path.{_≡_, refl, sym, _∙_}
-use mathlib.Core.Bool.{Bool}
+use mathlib.Core.Bool.{Bool, true, false, cond}
 use mathlib.Core.List.{List}
 use Prim.Native.Nat.{ℕ}
 use Rattle.determined.specs.Outcome.{OneOutcome, one-value, OneSeen, two-values}
 use Rattle.examine.specs.declared.chain.Verdict.{Verdict}
 use Rattle.link.specs.declared.header.Header.{Header}
-use Rattle.command.specs.Commands.{Outcome, commanded}
+use Rattle.command.specs.Commands.{Outcome, keeping, commanded}
 use Rattle.command.specs.Acts.{Starts}
 use Rattle.command.specs.StartLaws.{readied-same}
 use Rattle.command.specs.declared.command.Command.{Command}
 use Rattle.command.specs.declared.command.Begun.{Begun}
-use Rattle.command.specs.declared.command.Begun.the-variants as Begun
 use Rattle.command.proofs.command.start
 use Rattle.command.proofs.command.act
 use Rattle.command.proofs.known.nothing
@@ -76,14 +75,16 @@ seen-act _ _ _ _ p q = p .same ∙ sym (q .same)
 
 -- What comes of a command that was begun, on the words and scratch it left.
 pub finished : Command → Header → List ℕ → List ℕ → Begun → Outcome
-finished c h m s (Begun.Answered d) = (m, s, d .answer)
-finished c h m s (Begun.Ready clean) = commanded c m h s
+finished c h m s r = cond (r .ready) (commanded c m h s) (m, s, keeping h (r .reply))
 
 finished-same : (c : Command) (m : List ℕ) (h : Header) (s m′ s′ : List ℕ) (r : Begun) → Starts (commanded c) m h s m′ s′ r
     → finished c h m′ s′ r ≡ commanded c m h s
 unfolding finished
-finished-same c m h s m′ s′ (Begun.Answered d) S = S .answered d refl .same
-finished-same c m h s m′ s′ (Begun.Ready clean) S = readied-same S refl
+finished-same c m h s m′ s′ r S = by (r .ready) refl
+  where
+    by : (b : Bool) → r .ready ≡ b → cond b (commanded c m′ h s′) (m′, s′, keeping h (r .reply)) ≡ commanded c m h s
+    by true e = readied-same S e
+    by false e = S .answered e .same
 
 -- The command's outcome, once it is done. Open: whether it is answered at once where memory is ready, and what is remembered.
 pub seen-start :

@@ -13,12 +13,12 @@ use Rattle.batch.proofs.perform.perform.Statement.{statement}
 use Rattle.batch.proofs.perform.perform.Tie as tie
 
 abbrev Inv-loop : tie.InvT-loop
-Inv-loop words₀ scratch₀ trace n list₀ arguments header₀ knows₀ i₀ words scratch list header knows i =
+Inv-loop words₀ h scratch₀ trace n list₀ arguments knows₀ i₀ words scratch list knows i =
     (length words ≡ length words₀) × (length scratch ≡ length scratch₀) × (arguments ≡ argumentTable)
-    × Performing (performed n trace 0 words₀ header₀ scratch₀) n trace list₀ words scratch list i header knows
+    × Performing (performed n trace 0 words₀ h scratch₀) n trace list₀ words scratch list i h knows
 
 abbrev μ-loop : tie.MeasureT-loop
-μ-loop words₀ scratch₀ trace n list₀ arguments header₀ knows₀ i₀ words scratch list header knows i = n - i
+μ-loop words₀ h scratch₀ trace n list₀ arguments knows₀ i₀ words scratch list knows i = n - i
 
 loop-holds : tie.Need-loop-holds Inv-loop μ-loop
 loop-holds c = let a = c .before .before .before .before .args in (refl, refl, refl, performing-begin (a .n) (now (a .trace)) (now (a .words)) (now (a .scratch)) (now (a .list)) (a .h) (c .before .before .before .before .pre .0))
@@ -32,19 +32,39 @@ command-at-requires c κs = search needs
 start-requires : tie.Need-start-requires Inv-loop μ-loop
 start-requires c κs = (c .before .before .before .before .before .loop .inv .3 .knows, c .before .before .before .before .before .loop .inv .2)
 
-enum-known-begun : tie.Need-enum-known-begun Inv-loop μ-loop
-enum-known-begun c = search needs
+perform-ready-requires : tie.Need-perform-ready-requires Inv-loop μ-loop
+perform-ready-requires c κs =
+    let l = c .before .before .before .before .before .before .before .before .before .before .before .before .before .before .before .loop in
+    let e = l .inv .3 .places in
+    let p = c .before .before .before .before .before .before .before .before .before .before .before .before .before .before .before .before .before .before .before .before .pre .2 in
+    (readied-knows (c .before .before .before .before .before .before .before .before .before .start .ensures) (c .before .before .before .if1 .taken), l .inv .3 .upto, c .before .before .before .before .before .before .before .before .before .before .before .before .before .before .before .before .before .before .before .before .pre .1, omega arith)
+
+same-length : tie.Need-same-length Inv-loop μ-loop
+same-length c = c .before .before .before .before .before .words2 .given ∙ c .before .before .before .before .before .before .before .before .before .before .before .before .before .before .before .words .given ∙ c .before .before .before .before .before .before .before .before .before .before .before .before .before .before .before .before .before .before .before .before .before .before .loop .inv .0
+
+same-length-2 : tie.Need-same-length-2 Inv-loop μ-loop
+same-length-2 c = c .before .before .before .scratch2 .given ∙ c .before .before .before .before .before .before .before .before .before .before .before .before .before .scratch .given ∙ c .before .before .before .before .before .before .before .before .before .before .before .before .before .before .before .before .before .before .before .before .before .before .loop .inv .1
+
+same-length-3 : tie.Need-same-length-3 Inv-loop μ-loop
+same-length-3 c = c .before .list .given ∙ c .before .before .before .before .before .before .before .before .before .before .before .before .before .before .before .before .before .before .before .before .before .before .loop .inv .3 .places
+
+returns : tie.Need-returns Inv-loop μ-loop
+returns c =
+    let a = c .before .before .before .before .before .before .before .before .before .before .before .before .before .before .before .before .before .before .before .before .before .before .before .before .before .before .before .args in
+    let l = c .before .before .before .before .before .before .before .before .before .before .before .before .before .before .before .before .before .before .before .before .before .before .loop in
+    performing-rest (performed (a .n) (now (a .trace)) 0 (now (a .words)) (a .h) (now (a .scratch))) (a .n) (now (a .trace)) (now (a .list)) (c .before .before .before .before .before .before .before .before .before .before .before .before .before .before .before .before .before .before .before .before .before .before .before .before .before .before .before .pre .2) (l .words) (l .scratch) (l .list) (l .i) (a .h) (l .inv .3)
+    (c .before .before .before .before .before .before .before .before .before .before .before .before .before .before .before .before .before .before .before .before .before .loop-test .taken) (c .before .before .before .before .before .before .before .before .before .before .before .before .before .before .before .before .before .before .before .before .command-at .ensures) (c .before .before .before .before .before .before .before .before .before .before .before .before .before .before .before .before .start .ensures) (c .before .before .before .before .before .before .before .before .before .before .if1 .taken) (c .before .before .before .before .before .before .perform-ready .ensures)
 
 put-answer-requires : tie.Need-put-answer-requires Inv-loop μ-loop
 put-answer-requires c κs =
-    let a = c .before .before .before .before .before .before .before .before .before .before .before .before .before .before .before .before .before .before .before .before .args in
-    let l = c .before .before .before .before .before .before .before .before .before .before .before .before .before .before .before .loop in
-    performing-room (performed (a .n) (now (a .trace)) 0 (now (a .words)) (a .h) (now (a .scratch))) (a .n) (now (a .trace)) (now (a .list)) (c .before .before .before .before .before .before .before .before .before .before .before .before .before .before .before .before .before .before .before .before .pre .2) (l .words) (l .scratch) (l .list) (l .i) (l .header) (l .inv .3) (c .before .before .before .before .before .before .before .before .before .before .before .before .before .before .loop-test .taken)
+    let a = c .before .before .before .before .before .before .before .before .before .before .before .before .before .before .before .before .before .before .before .args in
+    let l = c .before .before .before .before .before .before .before .before .before .before .before .before .before .before .loop in
+    performing-room (performed (a .n) (now (a .trace)) 0 (now (a .words)) (a .h) (now (a .scratch))) (a .n) (now (a .trace)) (now (a .list)) (c .before .before .before .before .before .before .before .before .before .before .before .before .before .before .before .before .before .before .before .pre .2) (l .words) (l .scratch) (l .list) (l .i) (a .h) (l .inv .3) (c .before .before .before .before .before .before .before .before .before .before .before .before .before .loop-test .taken)
 
 add-i : tie.Need-add-i Inv-loop μ-loop
 add-i c =
-    let l = c .before .before .before .before .before .before .before .before .before .before .before .before .before .before .before .before .before .before .before .loop-test .taken in
-    let f = c .before .before .before .before .before .before .before .before .before .before .before .before .before .before .before .before .before .before .before .before .before .before .before .before .before .fits .n in
+    let l = c .before .before .before .before .before .before .before .before .before .before .before .before .before .before .before .before .loop-test .taken in
+    let f = c .before .before .before .before .before .before .before .before .before .before .before .before .before .before .before .before .before .before .before .before .before .before .fits .n in
     search needs
 
 loop-less : tie.Need-loop-less Inv-loop μ-loop
@@ -52,38 +72,11 @@ loop-less c = search needs
 
 loop-again : tie.Need-loop-again Inv-loop μ-loop
 loop-again c =
-    let a = c .before .before .before .before .before .before .before .before .before .before .before .before .before .before .before .before .before .before .before .before .before .before .before .before .before .args in
-    let l = c .before .before .before .before .before .before .before .before .before .before .before .before .before .before .before .before .before .before .before .before .loop in
-    let P = performing-more (performed (a .n) (now (a .trace)) 0 (now (a .words)) (a .h) (now (a .scratch))) (a .n) (now (a .trace)) (now (a .list)) (c .before .before .before .before .before .before .before .before .before .before .before .before .before .before .before .before .before .before .before .before .before .before .before .before .before .pre .2) (l .words) (l .scratch) (l .list) (l .i) (l .header) (l .inv .3)
-    (c .before .before .before .before .before .before .before .before .before .before .before .before .before .before .before .before .before .before .before .loop-test .taken) (c .before .before .before .before .before .before .before .before .before .before .before .before .before .before .before .before .before .before .command-at .ensures) (c .before .before .before .before .before .before .before .before .before .before .before .before .before .before .start .ensures .answered _ (c .before .before .before .before .before .before .before .before .begun .given .1)) (c .before .before .before .before .put-answer .ensures) in
-    (c .before .before .before .before .before .before .before .before .before .before .before .before .before .words .given ∙ l .inv .0, c .before .before .before .before .before .before .before .before .before .before .before .scratch .given ∙ l .inv .1, l .inv .2, P)
-
-enum-known-begun-2 : tie.Need-enum-known-begun-2 Inv-loop μ-loop
-enum-known-begun-2 c = search needs
-
-perform-ready-requires : tie.Need-perform-ready-requires Inv-loop μ-loop
-perform-ready-requires c κs =
-    let l = c .before .before .before .before .before .before .before .before .before .before .before .before .before .before .before .before .loop in
-    let t : l .i ≤ c .before .before .before .before .before .before .before .before .before .before .before .before .before .before .before .before .before .before .before .before .before .args .n = l .inv .3 .upto in
-    let e = l .inv .3 .places in
-    let p = c .before .before .before .before .before .before .before .before .before .before .before .before .before .before .before .before .before .before .before .before .before .pre .2 in
-    (readied-knows (c .before .before .before .before .before .before .before .before .before .before .start .ensures) (c .before .before .before .before .begun2 .given .1), t, c .before .before .before .before .before .before .before .before .before .before .before .before .before .before .before .before .before .before .before .before .before .pre .1, omega arith)
-
-same-length : tie.Need-same-length Inv-loop μ-loop
-same-length c = c .before .before .before .before .before .words2 .given ∙ c .before .before .before .before .before .before .before .before .before .before .before .before .before .before .before .before .words .given ∙ c .before .before .before .before .before .before .before .before .before .before .before .before .before .before .before .before .before .before .before .before .before .before .before .loop .inv .0
-
-same-length-2 : tie.Need-same-length-2 Inv-loop μ-loop
-same-length-2 c = c .before .before .before .scratch2 .given ∙ c .before .before .before .before .before .before .before .before .before .before .before .before .before .before .scratch .given ∙ c .before .before .before .before .before .before .before .before .before .before .before .before .before .before .before .before .before .before .before .before .before .before .before .loop .inv .1
-
-same-length-3 : tie.Need-same-length-3 Inv-loop μ-loop
-same-length-3 c = c .before .list2 .given ∙ c .before .before .before .before .before .before .before .before .before .before .before .before .before .before .before .before .before .before .before .before .before .before .before .loop .inv .3 .places
-
-returns : tie.Need-returns Inv-loop μ-loop
-returns c =
-    let a = c .before .before .before .before .before .before .before .before .before .before .before .before .before .before .before .before .before .before .before .before .before .before .before .before .before .before .before .before .args in
-    let l = c .before .before .before .before .before .before .before .before .before .before .before .before .before .before .before .before .before .before .before .before .before .before .before .loop in
-    performing-rest (performed (a .n) (now (a .trace)) 0 (now (a .words)) (a .h) (now (a .scratch))) (a .n) (now (a .trace)) (now (a .list)) (c .before .before .before .before .before .before .before .before .before .before .before .before .before .before .before .before .before .before .before .before .before .before .before .before .before .before .before .before .pre .2) (l .words) (l .scratch) (l .list) (l .i) (l .header) (l .inv .3)
-    (c .before .before .before .before .before .before .before .before .before .before .before .before .before .before .before .before .before .before .before .before .before .before .loop-test .taken) (c .before .before .before .before .before .before .before .before .before .before .before .before .before .before .before .before .before .before .before .before .before .command-at .ensures) (c .before .before .before .before .before .before .before .before .before .before .before .before .before .before .before .before .before .start .ensures) (c .before .before .before .before .before .before .before .before .before .before .before .begun2 .given .1) (c .before .before .before .before .before .before .perform-ready .ensures)
+    let a = c .before .before .before .before .before .before .before .before .before .before .before .before .before .before .before .before .before .before .before .before .before .before .args in
+    let l = c .before .before .before .before .before .before .before .before .before .before .before .before .before .before .before .before .before .loop in
+    let P = performing-more (performed (a .n) (now (a .trace)) 0 (now (a .words)) (a .h) (now (a .scratch))) (a .n) (now (a .trace)) (now (a .list)) (c .before .before .before .before .before .before .before .before .before .before .before .before .before .before .before .before .before .before .before .before .before .before .pre .2) (l .words) (l .scratch) (l .list) (l .i) (a .h) (l .inv .3)
+    (c .before .before .before .before .before .before .before .before .before .before .before .before .before .before .before .before .loop-test .taken) (c .before .before .before .before .before .before .before .before .before .before .before .before .before .before .before .command-at .ensures) (c .before .before .before .before .before .before .before .before .before .before .before .start .ensures .answered (c .before .before .before .before .before .if1 .left)) (c .before .before .put-answer .ensures) in
+    (c .before .before .before .before .before .before .before .before .before .before .words .given ∙ l .inv .0, c .before .before .before .before .before .before .before .before .scratch .given ∙ l .inv .1, l .inv .2, P)
 
 same-length-4 : tie.Need-same-length-4 Inv-loop μ-loop
 same-length-4 c = c .before .loop .inv .0
@@ -98,7 +91,7 @@ returns-2 : tie.Need-returns-2 Inv-loop μ-loop
 returns-2 c =
     let a = c .before .before .before .before .before .before .args in
     let l = c .before .loop in
-    performing-end (performed (a .n) (now (a .trace)) 0 (now (a .words)) (a .h) (now (a .scratch))) (a .n) (now (a .trace)) (now (a .list)) (c .before .before .before .before .before .before .pre .2) (l .words) (l .scratch) (l .list) (l .i) (l .header) (l .inv .3) (c .loop-test .left)
+    performing-end (performed (a .n) (now (a .trace)) 0 (now (a .words)) (a .h) (now (a .scratch))) (a .n) (now (a .trace)) (now (a .list)) (c .before .before .before .before .before .before .pre .2) (l .words) (l .scratch) (l .list) (l .i) (a .h) (l .inv .3) (c .loop-test .left)
 
 pub perform-spec : {M : Type 1} → statement M
 perform-spec =
@@ -110,17 +103,15 @@ perform-spec =
     mul-command-at
     command-at-requires
     start-requires
-    enum-known-begun
-    put-answer-requires
-    add-i
-    loop-less
-    loop-again
-    enum-known-begun-2
     perform-ready-requires
     same-length
     same-length-2
     same-length-3
     returns
+    put-answer-requires
+    add-i
+    loop-less
+    loop-again
     same-length-4
     same-length-5
     same-length-6

@@ -8,14 +8,15 @@ use lib.ListN.{getD}
 use borrow.Author.Needs.{needs}
 use denote.Ref.{now}
 use Rattle.link.specs.Words.{width}
+use Rattle.rules.specs.declared.answer.Answer.{Answer}
 use Rattle.command.specs.CallLaws.{unknown}
 use Rattle.command.specs.Calls.{callOf}
 use Rattle.command.specs.Kinds.{kindTable, detailTable, callBy}
 use Rattle.command.specs.KindLaws.{kind-call, detail-word}
 use Rattle.command.specs.Commands.{Outcome, called}
-use Rattle.command.specs.Known.{Did}
+use Rattle.command.specs.Known.{ready, Did}
 use Rattle.command.specs.StepLaws.{did-same, did-accepted, did-rejected}
-use Rattle.command.specs.Acts.{doneBy}
+use Rattle.command.specs.Acts.{acts}
 use Rattle.command.specs.ActLaws.{ready-knows, did-acted, did-stopped}
 use Rattle.command.specs.declared.call.Call.{Call}
 use Rattle.command.specs.declared.command.Acted.{Acted}
@@ -30,8 +31,8 @@ by-tables code {kinds} {details} k d lo hi =
     ∙ ap (λ (t : List ℕ). callBy (getD kindTable (code - 1) 0) (getD t (code - 1) 0)) d ∙ kind-call code (omega arith) (omega arith)
 
 -- what was refused, as what is answered
-said : {w : Outcome} {m s : List ℕ} {r x : Acted} → r ≡ x → Did w m s (doneBy x) → Did w m s (doneBy r)
-said {w} {m} {s} e = subst (λ (y : Acted). Did w m s (doneBy y)) (sym e)
+said : {w : Outcome} {m s : List ℕ} {r : Acted} {a : Answer} {clean : ℕ} → r ≡ acts a clean → Did w m s a (ready clean) → Did w m s (r .answer) (ready (r .clean))
+said {w} {m} {s} e = subst (λ (y : Acted). Did w m s (y .answer) (ready (y .clean))) (sym e)
 
 is-acceptable-requires : tie.Need-is-acceptable-requires
 is-acceptable-requires c κs = search needs
@@ -73,8 +74,8 @@ returns c =
     (did-same (ap (λ (y : Call). called y (x .a) (x .b) (now (a .words)) (a .h) (now (a .scratch))) (by-tables (x .code) (p .2) (p .3) (c .before .before .before .before .before .before .before .before .before .before .before .before .before .before .before .before .before .before .before .if1 .left) (c .before .before .before .before .before .before .before .before .before .before .before .before .before .before .before .before .before .if2 .taken)))
     (did-acted (now (a .words)) (a .h) (now (a .scratch)) (getD (now (a .details)) (x .code - 1) 0) (x .a) (x .b) (getD (now (a .kinds)) (x .code - 1) 0) (c .before .before .before .before .before .before .before .before .before .before .admit .ensures) (c .before .before .before .before .before .before .if4 .taken) (c .before .before .work .ensures)))
 
-refused-requires : tie.Need-refused-requires
-refused-requires c κs = search needs
+turn-down-requires : tie.Need-turn-down-requires
+turn-down-requires c κs = search needs
 
 same-length-3 : tie.Need-same-length-3
 same-length-3 c = search needs
@@ -87,29 +88,29 @@ returns-2 c =
     let a = c .before .before .before .before .before .before .before .before .before .before .before .before .before .before .before .before .before .before .args in
     let p = c .before .before .before .before .before .before .before .before .before .before .before .before .before .before .before .before .before .before .pre in
     let x = a .c in
-    said (c .refused .ensures)
+    said (c .turn-down .ensures)
     (did-accepted x (now (a .words)) (a .h) (now (a .scratch)) (sym (c .before .before .before .before .before .before .before .before .before .before .before .is-acceptable .ensures) ∙ c .before .before .before .before .before .before .before .before .before .before .if3 .taken)
     (did-same (ap (λ (y : Call). called y (x .a) (x .b) (now (a .words)) (a .h) (now (a .scratch))) (by-tables (x .code) (p .2) (p .3) (c .before .before .before .before .before .before .before .before .before .before .before .before .before .before .if1 .left) (c .before .before .before .before .before .before .before .before .before .before .before .before .if2 .taken)))
     (did-stopped (now (a .words)) (a .h) (now (a .scratch)) (getD (now (a .details)) (x .code - 1) 0) (x .a) (x .b) (getD (now (a .kinds)) (x .code - 1) 0) (c .before .before .before .before .before .admit .ensures) (c .before .if4 .left))))
 
-refused-requires-2 : tie.Need-refused-requires-2
-refused-requires-2 c κs = search needs
+turn-down-requires-2 : tie.Need-turn-down-requires-2
+turn-down-requires-2 c κs = search needs
 
-refused-requires-3 : tie.Need-refused-requires-3
-refused-requires-3 c κs = search needs
+turn-down-requires-3 : tie.Need-turn-down-requires-3
+turn-down-requires-3 c κs = search needs
 
 returns-3 : tie.Need-returns-3
 returns-3 c =
     let a = c .before .before .before .before .before .before .before .before .before .args in
-    did-rejected (a .c) (now (a .words)) (a .h) (now (a .scratch)) (sym (c .before .before .is-acceptable .ensures) ∙ c .before .if3 .left) (c .before .before .before .before .before .before .before .before .before .pre .0)
-    (ap (λ (r : Acted). r .answer) (c .refused2 .ensures), ap (λ (r : Acted). doneBy r .known) (c .refused2 .ensures))
+    said (c .turn-down2 .ensures)
+    (did-rejected (a .c) (now (a .words)) (a .h) (now (a .scratch)) (sym (c .before .before .is-acceptable .ensures) ∙ c .before .if3 .left) (c .before .before .before .before .before .before .before .before .before .pre .0))
 
 returns-4 : tie.Need-returns-4
 returns-4 c =
     let a = c .before .before .before .before .before .args in
-    did-rejected (a .c) (now (a .words)) (a .h) (now (a .scratch))
-    (unknown (a .c .code) (a .c .unused) (a .c .a) (a .c .b) (⊎-map (λ t. t .taken) (λ e. e .2 .left) (c .before .if1 .came))) (c .before .before .before .before .before .pre .0)
-    (ap (λ (r : Acted). r .answer) (c .refused3 .ensures), ap (λ (r : Acted). doneBy r .known) (c .refused3 .ensures))
+    said (c .turn-down3 .ensures)
+    (did-rejected (a .c) (now (a .words)) (a .h) (now (a .scratch))
+    (unknown (a .c .code) (a .c .unused) (a .c .a) (a .c .b) (⊎-map (λ t. t .taken) (λ e. e .2 .left) (c .before .if1 .came))) (c .before .before .before .before .before .pre .0))
 
 pub act-spec : {M : Type 1} → statement M
 act-spec =
@@ -125,11 +126,11 @@ act-spec =
     same-length
     same-length-2
     returns
-    refused-requires
+    turn-down-requires
     same-length-3
     same-length-4
     returns-2
-    refused-requires-2
-    refused-requires-3
+    turn-down-requires-2
+    turn-down-requires-3
     returns-3
     returns-4)

@@ -4,7 +4,7 @@ use borrow.Author.Needs.{needs}
 use denote.Ref.{now}
 use Rattle.command.specs.Commands.{called}
 use Rattle.command.specs.StepLaws.{did-same, did-kept, did-set}
-use Rattle.command.specs.StartLaws.{starts-answered, starts-same, starts-make, starts-live, starts-below}
+use Rattle.command.specs.StartLaws.{starts-answered, starts-same, starts-make, starts-live, starts-below, starts-validate}
 use Rattle.command.specs.declared.call.Call.{Call}
 use Rattle.command.proofs.command.begin.Statement.{statement}
 use Rattle.command.proofs.command.begin.Tie as tie
@@ -21,8 +21,8 @@ enum-known-call-2 c = search needs
 read-requires : tie.Need-read-requires
 read-requires c κs = search needs
 
-keep-requires : tie.Need-keep-requires
-keep-requires c κs = search needs
+replied-requires : tie.Need-replied-requires
+replied-requires c κs = search needs
 
 enum-told : tie.Need-enum-told
 enum-told c = search needs
@@ -30,8 +30,8 @@ enum-told c = search needs
 set-requires : tie.Need-set-requires
 set-requires c κs = search needs
 
-keep-requires-2 : tie.Need-keep-requires-2
-keep-requires-2 c κs = search needs
+replied-requires-2 : tie.Need-replied-requires-2
+replied-requires-2 c κs = search needs
 
 enum-told-2 : tie.Need-enum-told-2
 enum-told-2 c = search needs
@@ -70,8 +70,9 @@ returns-2 : tie.Need-returns-2
 unfolding called
 returns-2 c =
     let a = c .before .before .before .before .before .before .before .before .args in
-    starts-answered (called (a .call) (a .a) (a .b)) (now (a .words)) (a .h) (now (a .scratch)) (did-same (ap (λ (x : Call). called x (a .a) (a .b) (now (a .words)) (a .h) (now (a .scratch))) (sym (c .before .before .before .before .call2 .given .1)))
-    (did-kept (now (a .words)) (a .h) (now (a .scratch)) (ap (λ r. (now (a .scratch), r)) (c .before .read .ensures)) (c .before .before .before .before .before .before .before .before .pre) (c .keep .ensures)))
+    starts-answered (called (a .call) (a .a) (a .b)) (now (a .words)) (a .h) (now (a .scratch)) (c .replied .ensures)
+    (did-same (ap (λ (x : Call). called x (a .a) (a .b) (now (a .words)) (a .h) (now (a .scratch))) (sym (c .before .before .before .before .call2 .given .1)))
+    (did-kept (now (a .words)) (a .h) (now (a .scratch)) (ap (λ r. (now (a .scratch), r)) (c .before .read .ensures)) (c .before .before .before .before .before .before .before .before .pre)))
 
 same-length-4 : tie.Need-same-length-4
 same-length-4 c = search needs
@@ -80,8 +81,9 @@ returns-3 : tie.Need-returns-3
 unfolding called
 returns-3 c =
     let a = c .before .before .before .before .before .before .before .before .before .args in
-    starts-answered (called (a .call) (a .a) (a .b)) (now (a .words)) (a .h) (now (a .scratch)) (did-same (ap (λ (x : Call). called x (a .a) (a .b) (now (a .words)) (a .h) (now (a .scratch))) (sym (c .before .before .before .before .before .enum-told .given .1)))
-    (did-set (now (a .words)) (a .h) (now (a .scratch)) (a .a) (a .b) (c .before .before .before .set .ensures) (c .before .before .before .before .before .before .before .before .before .pre) (c .keep2 .ensures)))
+    starts-answered (called (a .call) (a .a) (a .b)) (now (a .words)) (a .h) (now (a .scratch)) (c .replied2 .ensures)
+    (did-same (ap (λ (x : Call). called x (a .a) (a .b) (now (a .words)) (a .h) (now (a .scratch))) (sym (c .before .before .before .before .before .enum-told .given .1)))
+    (did-set (now (a .words)) (a .h) (now (a .scratch)) (a .a) (a .b) (c .before .before .before .set .ensures) (c .before .before .before .before .before .before .before .before .before .pre)))
 
 same-length-5 : tie.Need-same-length-5
 same-length-5 c = search needs
@@ -117,7 +119,7 @@ returns-6 : tie.Need-returns-6
 unfolding called
 returns-6 c =
     let a = c .before .before .before .before .before .before .before .before .before .args in
-    starts-answered (called (a .call) (a .a) (a .b)) (now (a .words)) (a .h) (now (a .scratch)) (did-same (ap (λ (x : Call). called x (a .a) (a .b) (now (a .words)) (a .h) (now (a .scratch))) (sym (c .before .before .before .before .before .enum-told4 .given .1))) (c .before .before .judge .ensures))
+    starts-same (now (a .words)) (a .h) (now (a .scratch)) (a .a) (a .b) (sym (c .before .before .before .before .before .enum-told4 .given .1)) (starts-validate (now (a .words)) (a .h) (now (a .scratch)) (a .a) (a .b) (c .before .before .judge .ensures))
 
 pub begin-spec : {M : Type 1} → statement M
 begin-spec =
@@ -127,10 +129,10 @@ begin-spec =
     enter-requires
     enum-known-call-2
     read-requires
-    keep-requires
+    replied-requires
     enum-told
     set-requires
-    keep-requires-2
+    replied-requires-2
     enum-told-2
     enter-requires-2
     enum-told-3

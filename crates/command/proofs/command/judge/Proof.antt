@@ -5,6 +5,8 @@ use denote.Ref.{now}
 use Rattle.sound.specs.Guard.{soundResult}
 use Rattle.sound.specs.GuardLaws.{validated-fits, validated-unfit}
 use Rattle.command.specs.StepLaws.{fit-look, did-kept}
+use Rattle.command.specs.StartLaws.{starts-answered}
+use Rattle.command.specs.declared.call.Call.the-variants as Calls
 use Rattle.command.specs.Commands.{called}
 use Rattle.command.proofs.command.judge.Statement.{statement}
 use Rattle.command.proofs.command.judge.Tie as tie
@@ -18,8 +20,8 @@ look-requires c κs = let a = c .before .before .before .before .before .before 
 sound-result-requires : tie.Need-sound-result-requires
 sound-result-requires c κs = search needs
 
-keep-requires : tie.Need-keep-requires
-keep-requires c κs = search needs
+replied-requires : tie.Need-replied-requires
+replied-requires c κs = search needs
 
 same-length : tie.Need-same-length
 same-length c = search needs
@@ -29,13 +31,13 @@ unfolding called
 returns c =
     let a = c .before .before .before .before .before .before .before .before .before .before .before .args in
     let L = c .before .before .before .before .look .ensures in
-    did-kept (now (a .words)) (a .h) (now (a .scratch))
+    starts-answered (called Calls.Validate 0 0) (now (a .words)) (a .h) (now (a .scratch)) (c .replied .ensures)
+    (did-kept (now (a .words)) (a .h) (now (a .scratch))
     (validated-fits (now (a .words)) (a .h) (now (a .scratch)) (c .before .before .before .before .before .before .before .fit .ensures) (c .before .before .before .before .before .before .if1 .taken) (L .zero)
-    (c .before .sound-result .ensures ∙ ap soundResult (L .knows .verdict (L .looked))))
-    (L .knows) (c .keep .ensures)
+    (c .before .sound-result .ensures ∙ ap soundResult (L .knows .verdict (L .looked)))) (L .knows))
 
-refuse-requires : tie.Need-refuse-requires
-refuse-requires c κs = search needs
+refused-requires : tie.Need-refused-requires
+refused-requires c κs = search needs
 
 same-length-2 : tie.Need-same-length-2
 same-length-2 c = search needs
@@ -44,9 +46,9 @@ returns-2 : tie.Need-returns-2
 unfolding called
 returns-2 c =
     let a = c .before .before .before .before .before .before .args in
-    did-kept (now (a .words)) (a .h) (now (a .scratch))
-    (validated-unfit (now (a .words)) (a .h) (now (a .scratch)) (c .before .before .fit .ensures) (c .before .if1 .left))
-    (c .before .before .before .before .before .before .pre) (c .refuse .ensures)
+    starts-answered (called Calls.Validate 0 0) (now (a .words)) (a .h) (now (a .scratch)) (c .refused .ensures)
+    (did-kept (now (a .words)) (a .h) (now (a .scratch))
+    (validated-unfit (now (a .words)) (a .h) (now (a .scratch)) (c .before .before .fit .ensures) (c .before .if1 .left)) (c .before .before .before .before .before .before .pre))
 
 pub judge-spec : {M : Type 1} → statement M
 judge-spec =
@@ -55,9 +57,9 @@ judge-spec =
     fit-requires
     look-requires
     sound-result-requires
-    keep-requires
+    replied-requires
     same-length
     returns
-    refuse-requires
+    refused-requires
     same-length-2
     returns-2)

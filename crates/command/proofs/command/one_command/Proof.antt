@@ -13,14 +13,8 @@ nothing-requires c κs = search needs
 start-requires : tie.Need-start-requires
 start-requires c κs = let a = c .before .before .before .before .before .before .args in (knows-nothing (now (a .words)) (a .h) (now (a .scratch)) (c .before .nothing .ensures .0) (c .before .nothing .ensures .1), refl)
 
-enum-known-begun : tie.Need-enum-known-begun
-enum-known-begun c = search needs
-
-enum-known-begun-2 : tie.Need-enum-known-begun-2
-enum-known-begun-2 c = search needs
-
 act-requires : tie.Need-act-requires
-act-requires c κs = (readied-knows (c .before .before .before .before .before .before .before .before .before .before .before .before .start .ensures) (c .before .before .before .before .before .before .begun2 .given .1), refl, refl, refl)
+act-requires c κs = (readied-knows (c .before .before .before .before .before .before .before .before .before .before .before .start .ensures) (c .before .before .before .before .before .before .if1 .taken), refl, refl, refl)
 
 same-length : tie.Need-same-length
 same-length c = search needs
@@ -29,7 +23,7 @@ same-length-2 : tie.Need-same-length-2
 same-length-2 c = search needs
 
 returns : tie.Need-returns
-returns c = c .before .before .before .before .before .before .before .before .start .ensures .answered _ (c .before .before .begun .given .1) .same
+returns c = c .before .before .before .before .before .act .ensures .same ∙ readied-same (c .before .before .before .before .before .before .before .before .before .before .before .before .before .before .before .before .before .start .ensures) (c .before .before .before .before .before .before .before .before .before .before .before .before .if1 .taken)
 
 same-length-3 : tie.Need-same-length-3
 same-length-3 c = search needs
@@ -38,7 +32,7 @@ same-length-4 : tie.Need-same-length-4
 same-length-4 c = search needs
 
 returns-2 : tie.Need-returns-2
-returns-2 c = c .before .before .before .before .before .act .ensures .same ∙ readied-same (c .before .before .before .before .before .before .before .before .before .before .before .before .before .before .before .before .before .before .start .ensures) (c .before .before .before .before .before .before .before .before .before .before .before .before .begun2 .given .1)
+returns-2 c = c .before .before .before .before .before .before .start .ensures .answered (c .before .if1 .left) .same
 
 pub one-command-spec : {M : Type 1} → statement M
 one-command-spec =
@@ -46,8 +40,6 @@ one-command-spec =
     (tie.spec
     nothing-requires
     start-requires
-    enum-known-begun
-    enum-known-begun-2
     act-requires
     same-length
     same-length-2

@@ -13,10 +13,13 @@ use Rattle.command.proofs.command.start.Tie as tie
 is-ready-requires : tie.Need-is-ready-requires
 is-ready-requires c κs = search needs
 
+readied-requires : tie.Need-readied-requires
+readied-requires c κs = search needs
+
 returns : tie.Need-returns
 returns c =
-    let a = c .before .before .before .before .args in
-    starts-ready (a .c) (now (a .words)) (a .h) (now (a .scratch)) (c .before .before .before .before .pre .0) (sym (c .before .is-ready .ensures) ∙ c .if1 .taken)
+    let a = c .before .before .before .before .before .args in
+    starts-ready (a .c) (now (a .words)) (a .h) (now (a .scratch)) (c .readied .ensures) (c .before .before .before .before .before .pre .0) (sym (c .before .before .is-ready .ensures) ∙ c .before .if1 .taken)
 
 is-acceptable-requires : tie.Need-is-acceptable-requires
 is-acceptable-requires c κs = search needs
@@ -39,27 +42,30 @@ returns-2 c =
     starts-accepted (a .c) (now (a .words)) (a .h) (now (a .scratch)) (sym (c .before .before .before .before .before .before .before .before .before .is-acceptable .ensures) ∙ c .before .before .before .before .before .before .before .before .if4 .taken)
     (starts-same (now (a .words)) (a .h) (now (a .scratch)) (a .c .a) (a .c .b) (c .before .before .before .before .before .call-of .ensures) (c .before .before .before .before .begin .ensures))
 
-refuse-requires : tie.Need-refuse-requires
-refuse-requires c κs = search needs
+refused-requires : tie.Need-refused-requires
+refused-requires c κs = search needs
 
-refuse-requires-2 : tie.Need-refuse-requires-2
-refuse-requires-2 c κs = search needs
+refused-requires-2 : tie.Need-refused-requires-2
+refused-requires-2 c κs = search needs
 
 returns-3 : tie.Need-returns-3
 returns-3 c =
     let a = c .before .before .before .before .before .before .before .before .before .before .before .args in
-    starts-answered (commanded (a .c)) (now (a .words)) (a .h) (now (a .scratch)) (did-rejected (a .c) (now (a .words)) (a .h) (now (a .scratch)) (sym (c .before .before .is-acceptable .ensures) ∙ c .before .if4 .left) (c .before .before .before .before .before .before .before .before .before .before .before .pre .0) (c .refuse .ensures))
+    starts-answered (commanded (a .c)) (now (a .words)) (a .h) (now (a .scratch)) (c .refused .ensures)
+    (did-rejected (a .c) (now (a .words)) (a .h) (now (a .scratch)) (sym (c .before .before .is-acceptable .ensures) ∙ c .before .if4 .left) (c .before .before .before .before .before .before .before .before .before .before .before .pre .0))
 
 returns-4 : tie.Need-returns-4
 returns-4 c =
     let a = c .before .before .before .before .before .before .before .args in
-    starts-answered (commanded (a .c)) (now (a .words)) (a .h) (now (a .scratch)) (did-rejected (a .c) (now (a .words)) (a .h) (now (a .scratch)) (unknown (a .c .code) (a .c .unused) (a .c .a) (a .c .b) (⊎-map (λ t. t .taken) (λ e. e .2 .left) (c .before .if2 .came))) (c .before .before .before .before .before .before .before .pre .0) (c .refuse2 .ensures))
+    starts-answered (commanded (a .c)) (now (a .words)) (a .h) (now (a .scratch)) (c .refused2 .ensures)
+    (did-rejected (a .c) (now (a .words)) (a .h) (now (a .scratch)) (unknown (a .c .code) (a .c .unused) (a .c .a) (a .c .b) (⊎-map (λ t. t .taken) (λ e. e .2 .left) (c .before .if2 .came))) (c .before .before .before .before .before .before .before .pre .0))
 
 pub start-spec : {M : Type 1} → statement M
 start-spec =
     tie.close
     (tie.spec
     is-ready-requires
+    readied-requires
     returns
     is-acceptable-requires
     call-of-requires
@@ -67,7 +73,7 @@ start-spec =
     same-length
     same-length-2
     returns-2
-    refuse-requires
-    refuse-requires-2
+    refused-requires
+    refused-requires-2
     returns-3
     returns-4)
