@@ -17,7 +17,7 @@ use Rattle.command.specs.Acts.{Starts}
 use Rattle.command.specs.StartLaws.{readied-same}
 use Rattle.command.specs.declared.known.Known.{Known}
 use Rattle.command.specs.declared.command.Command.{Command}
-use Rattle.command.specs.declared.command.Begun.{Begun}
+use Rattle.command.specs.declared.start.Begun.{Begun}
 use Rattle.batch.specs.Trace.{size, commandAt}
 use Rattle.batch.specs.Batch.{After, after, performed}
 use Rattle.batch.specs.Performing.{before, Performs}

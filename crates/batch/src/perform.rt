@@ -1,11 +1,11 @@
 // The commands of a trace, one after the other, on memory of which something may be known already.
 use crate::trace::Trace;
 use crate::trace::command_at;
+use command::act::act;
 use command::code::Code;
-use command::command::act;
-use command::command::start;
 use command::known::Known;
 use command::known::ready;
+use command::start::start;
 use link::header::Header;
 ghost use mathlib.Core.Path.{_≡_};
 ghost use Prim.Native.Nat.{_+_, _-_, _*_, _≤_};

@@ -23,13 +23,13 @@ use Rattle.arena.specs.Census.{censusOf, liveCall}
 use Rattle.lists.specs.Listing.{counted}
 use Rattle.command.specs.Kinds.{callBy}
 use Rattle.command.specs.Commands.{Outcome, changed, keeping, called}
-use Rattle.command.specs.Known.{gate, ready, settled, Knows, Gated, Did}
-use Rattle.command.specs.StepLaws.{ready-verdict, gated-settled, did-kept, did-set, did-refused, did-made}
+use Rattle.command.specs.Known.{gate, ready, settled, Knows, Looked, Gated, Did}
+use Rattle.command.specs.StepLaws.{ready-verdict, gated-fit, gated-unfit, gated-settled, did-kept, did-set, did-refused, did-made}
 use Rattle.command.specs.Acts.{acted, freeB, Roomed}
 use Rattle.command.specs.declared.call.Call.{Call}
 use Rattle.command.specs.declared.call.Call.the-variants.{Make, Read, Set, LiveCount, DescendantCount, Validate}
-use Rattle.command.specs.declared.command.Gate.{Gate}
-use Rattle.command.specs.declared.command.Room.{Room}
+use Rattle.command.specs.declared.known.Known.{Known}
+use Rattle.command.specs.declared.act.Room.{Room}
 use Rattle.examine.specs.declared.chain.Verdict.{Verdict}
 use Rattle.examine.specs.declared.chain.Verdict.the-variants as Is
 
@@ -124,7 +124,7 @@ module _ (m : List ℕ) (h : Header) (s : List ℕ) (detail a b : ℕ) {s′ : L
   did-stopped (suc zero) W n = absurd (n (W .free (omega arith) .0))
   did-stopped (suc (suc k)) W n = stopped-guarded m h s a b (callBy (suc (suc k)) detail) (guarded-kind k detail) (W .asked (omega arith)) n
 
--- the guard on ready memory: nothing to do, none, or the guard of every call
+-- the guard on ready memory: nothing to do, none, or the tests of every call
 module _ (m : List ℕ) (h : Header) (s : List ℕ) (kind : ℕ) {clean : ℕ} (K : Knows m h s (ready clean)) where
   abbrev room : ℕ → ℕ → Room
   room number zeros = record { number = number; clean = zeros }
@@ -140,12 +140,16 @@ module _ (m : List ℕ) (h : Header) (s : List ℕ) (kind : ℕ) {clean : ℕ} (
   pub roomed-free : kind ≤ 1 → Roomed kind m h s s (room DONE clean)
   roomed-free l = record { free = λ _. (refl, refl); asked = λ g. absurd (omega arith); knows = K }
 
-  pub roomed-guarded : {s′ : List ℕ} {g : Gate} → 1 < kind → Gated m h s s′ g → Roomed kind m h s s′ (room (g .number) (g .known .clean))
-  roomed-guarded {s′} {g} l G = record {
-    free = λ f. absurd (omega arith);
-    asked = λ _. record { scratch = G .scratch; number = G .number; knows = still };
-    knows = still;
-  }
+  pub roomed-looked : {s′ : List ℕ} {no : ℕ} {k : Known} → 1 < kind → no ≡ fitNo (length m) (h .used) (length s) → no ≡ DONE → Looked m h s s′ k
+      → Roomed kind m h s s′ (room no (k .clean))
+  unfolding readyNo
+  roomed-looked {s′} {no} {k} l e d L =
+      let v : k .verdict ≡ Is.Ready = L .knows .verdict (L .looked) ∙ sym (K .verdict refl) in
+      let G : Gated m h s s′ (gate no k) = gated-fit m h s e d L (d ∙ sym (ap readyNo v), refl) in
+      record { free = λ f. absurd (omega arith); asked = λ _. record { scratch = G .scratch; number = G .number; knows = still L }; knows = still L }
     where
-      still : Knows m h s′ (ready (g .known .clean))
-      still = record { frame = K .frame; verdict = K .verdict; zeros = G .knows .zeros; fits = G .knows .fits }
+      still : Looked m h s s′ k → Knows m h s′ (ready (k .clean))
+      still L = record { frame = K .frame; verdict = K .verdict; zeros = L .knows .zeros; fits = L .knows .fits }
+
+  pub roomed-unfit : {no : ℕ} → 1 < kind → no ≡ fitNo (length m) (h .used) (length s) → (no ≡ DONE → ⊥) → Roomed kind m h s s (room no clean)
+  roomed-unfit {no} l e n = record { free = λ f. absurd (omega arith); asked = λ _. gated-unfit m h s e n K; knows = K }

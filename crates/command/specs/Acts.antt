@@ -17,9 +17,9 @@ use Rattle.command.specs.Known.{ready, gate, Knows, Gated, Did}
 use Rattle.command.specs.declared.call.Call.{Call}
 use Rattle.command.specs.declared.call.Call.the-variants.{Make, Read, Set, LiveCount, DescendantCount, Validate}
 use Rattle.command.specs.declared.known.Known.{Known}
-use Rattle.command.specs.declared.command.Begun.{Begun}
-use Rattle.command.specs.declared.command.Room.{Room}
-use Rattle.command.specs.declared.command.Acted.{Acted}
+use Rattle.command.specs.declared.start.Begun.{Begun}
+use Rattle.command.specs.declared.act.Room.{Room}
+use Rattle.command.specs.declared.act.Acted.{Acted}
 
 -- What a call does on ready memory that fits: words and answer.
 abbrev pub acted : Call → ℕ → ℕ → List ℕ → Header → List ℕ × Answer

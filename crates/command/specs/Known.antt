@@ -15,7 +15,7 @@ use Rattle.examine.specs.declared.chain.Verdict.the-variants.{Ready}
 use Rattle.sound.specs.Guard.{scratchAfter, guardNo}
 use Rattle.command.specs.Commands.{Outcome}
 use Rattle.command.specs.declared.known.Known.{Known}
-use Rattle.command.specs.declared.command.Gate.{Gate}
+use Rattle.command.specs.declared.start.Gate.{Gate}
 
 -- Where it has looked, the slots in use fit the memory, and the verdict is the memory's; and the first `clean` scratch words are zero.
 pub record Knows (m : List ℕ) (h : Header) (scratch : List ℕ) (k : Known) : Type 0 where

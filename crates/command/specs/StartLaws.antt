@@ -30,8 +30,8 @@ use Rattle.command.specs.declared.call.Call.{Call}
 use Rattle.command.specs.declared.call.Call.the-variants.{Make, LiveCount, DescendantCount, Validate}
 use Rattle.command.specs.declared.known.Known.{Known}
 use Rattle.command.specs.declared.command.Command.{Command}
-use Rattle.command.specs.declared.command.Gate.{Gate}
-use Rattle.command.specs.declared.command.Begun.{Begun}
+use Rattle.command.specs.declared.start.Gate.{Gate}
+use Rattle.command.specs.declared.start.Begun.{Begun}
 
 module _ (m : List ℕ) (h : Header) (s : List ℕ) where
   -- known to be ready, whatever else is carried along

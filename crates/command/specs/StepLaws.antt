@@ -32,7 +32,7 @@ use Rattle.command.specs.Ready.{Stays, changed-stays, set-examined}
 use Rattle.command.specs.declared.call.Change.{Change}
 use Rattle.command.specs.declared.known.Known.{Known}
 use Rattle.command.specs.declared.command.Command.{Command}
-use Rattle.command.specs.declared.command.Gate.{Gate}
+use Rattle.command.specs.declared.start.Gate.{Gate}
 use Rattle.examine.specs.declared.chain.Verdict.the-variants as Is
 
 -- ready memory has one verdict

@@ -11,9 +11,9 @@ use Rattle.command.specs.Commands.{Outcome, keeping, commanded}
 use Rattle.command.specs.Acts.{Starts}
 use Rattle.command.specs.StartLaws.{readied-same}
 use Rattle.command.specs.declared.command.Command.{Command}
-use Rattle.command.specs.declared.command.Begun.{Begun}
-use Rattle.command.proofs.command.start
-use Rattle.command.proofs.command.act
+use Rattle.command.specs.declared.start.Begun.{Begun}
+use Rattle.command.proofs.start.start
+use Rattle.command.proofs.act.act
 use Rattle.command.proofs.known.nothing
 use Rattle.command.proofs.known.fresh
 use Rattle.command.proofs.known.ready

@@ -1,10 +1,10 @@
--- The contract of `command::command::pass`.
+-- The contract of `command::start::pass`.
 use mathlib.Core.Path.{sym, _∙_}
 use borrow.Author.Needs.{needs}
 use denote.Ref.{now}
 use Rattle.command.specs.StepLaws.{fit-look, gated-fit, gated-unfit, gated-settled}
-use Rattle.command.proofs.command.pass.Statement.{statement}
-use Rattle.command.proofs.command.pass.Tie as tie
+use Rattle.command.proofs.start.pass.Statement.{statement}
+use Rattle.command.proofs.start.pass.Tie as tie
 
 is-settled-requires : tie.Need-is-settled-requires
 is-settled-requires c κs = search needs

@@ -1,4 +1,4 @@
--- The contract of `command::command::act`.
+-- The contract of `command::act::act`.
 use mathlib.Core.Path.{_≡_, sym, ap, _∙_, subst}
 use mathlib.Core.Logic.{⊎-map}
 use mathlib.Core.List.{List}
@@ -19,9 +19,9 @@ use Rattle.command.specs.StepLaws.{did-same, did-accepted, did-rejected}
 use Rattle.command.specs.Acts.{acts}
 use Rattle.command.specs.ActLaws.{ready-knows, did-acted, did-stopped}
 use Rattle.command.specs.declared.call.Call.{Call}
-use Rattle.command.specs.declared.command.Acted.{Acted}
-use Rattle.command.proofs.command.act.Statement.{statement}
-use Rattle.command.proofs.command.act.Tie as tie
+use Rattle.command.specs.declared.act.Acted.{Acted}
+use Rattle.command.proofs.act.act.Statement.{statement}
+use Rattle.command.proofs.act.act.Tie as tie
 
 -- the call that the tables lent have for a code
 by-tables : (code : ℕ) {kinds details : List ℕ} → kinds ≡ kindTable → details ≡ detailTable → 1 ≤ code → code < 25

@@ -1,4 +1,4 @@
--- The contract of `command::command::begin`.
+-- The contract of `command::start::begin`.
 use mathlib.Core.Path.{sym, ap}
 use borrow.Author.Needs.{needs}
 use denote.Ref.{now}
@@ -6,8 +6,8 @@ use Rattle.command.specs.Commands.{called}
 use Rattle.command.specs.StepLaws.{did-same, did-kept, did-set}
 use Rattle.command.specs.StartLaws.{starts-answered, starts-same, starts-make, starts-live, starts-below, starts-validate}
 use Rattle.command.specs.declared.call.Call.{Call}
-use Rattle.command.proofs.command.begin.Statement.{statement}
-use Rattle.command.proofs.command.begin.Tie as tie
+use Rattle.command.proofs.start.begin.Statement.{statement}
+use Rattle.command.proofs.start.begin.Tie as tie
 
 enum-known-call : tie.Need-enum-known-call
 enum-known-call c = search needs

@@ -1,4 +1,4 @@
--- The contract of `command::command::start`.
+-- The contract of `command::start::start`.
 use mathlib.Core.Path.{sym, _∙_}
 use mathlib.Core.Logic.{⊎-map}
 use borrow.Author.Needs.{needs}
@@ -7,8 +7,8 @@ use Rattle.command.specs.CallLaws.{unknown}
 use Rattle.command.specs.Commands.{commanded}
 use Rattle.command.specs.StepLaws.{did-rejected}
 use Rattle.command.specs.StartLaws.{starts-ready, starts-answered, starts-same, starts-accepted}
-use Rattle.command.proofs.command.start.Statement.{statement}
-use Rattle.command.proofs.command.start.Tie as tie
+use Rattle.command.proofs.start.start.Statement.{statement}
+use Rattle.command.proofs.start.start.Tie as tie
 
 is-ready-requires : tie.Need-is-ready-requires
 is-ready-requires c κs = search needs

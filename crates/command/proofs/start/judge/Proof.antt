@@ -1,4 +1,4 @@
--- The contract of `command::command::judge`.
+-- The contract of `command::start::judge`.
 use mathlib.Core.Path.{_∙_, ap}
 use borrow.Author.Needs.{needs}
 use denote.Ref.{now}
@@ -8,8 +8,8 @@ use Rattle.command.specs.StepLaws.{fit-look, did-kept}
 use Rattle.command.specs.StartLaws.{starts-answered}
 use Rattle.command.specs.declared.call.Call.the-variants as Calls
 use Rattle.command.specs.Commands.{called}
-use Rattle.command.proofs.command.judge.Statement.{statement}
-use Rattle.command.proofs.command.judge.Tie as tie
+use Rattle.command.proofs.start.judge.Statement.{statement}
+use Rattle.command.proofs.start.judge.Tie as tie
 
 fit-requires : tie.Need-fit-requires
 fit-requires c κs = search needs

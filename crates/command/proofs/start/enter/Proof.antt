@@ -1,9 +1,9 @@
--- The contract of `command::command::enter`.
+-- The contract of `command::start::enter`.
 use borrow.Author.Needs.{needs}
 use denote.Ref.{now}
 use Rattle.command.specs.StartLaws.{entered-ready, entered-refused}
-use Rattle.command.proofs.command.enter.Statement.{statement}
-use Rattle.command.proofs.command.enter.Tie as tie
+use Rattle.command.proofs.start.enter.Statement.{statement}
+use Rattle.command.proofs.start.enter.Tie as tie
 
 pass-requires : tie.Need-pass-requires
 pass-requires c κs = search needs
