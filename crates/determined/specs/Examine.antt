@@ -15,8 +15,6 @@ use Rattle.examine.proofs.slots.found_within
 use Rattle.examine.proofs.slots.has
 use Rattle.examine.proofs.slots.children_ok
 use Rattle.examine.proofs.slots.next_ok
-use Rattle.examine.proofs.slots.lead_ok
-use Rattle.examine.proofs.slots.none_or_found
 use Rattle.examine.proofs.slots.previous_ok
 use Rattle.examine.proofs.slots.prior_slot
 use Rattle.examine.proofs.slots.kin
@@ -62,14 +60,8 @@ one-children-ok _ _ _ _ = one-value (λ t. (t, (tt, (tt, (tt, (tt, (tt, tt))))))
 pub one-next-ok : OneOutcome next_ok.Kinds.ps next_ok.Kinds.r next_ok.Reads.Learnt
 one-next-ok _ _ _ _ = one-value (λ t. (t, (tt, (tt, (tt, (tt, (tt, tt)))))))
 
-pub one-lead-ok : OneOutcome lead_ok.Kinds.ps lead_ok.Kinds.r lead_ok.Reads.Learnt
-one-lead-ok _ _ _ _ = one-value (λ t. (t, (tt, (tt, (tt, (tt, tt))))))
-
-pub one-none-or-found : OneOutcome none_or_found.Kinds.ps none_or_found.Kinds.r none_or_found.Reads.Learnt
-one-none-or-found _ _ _ _ = one-value (λ t. (t, (tt, (tt, (tt, tt)))))
-
 pub one-previous-ok : OneOutcome previous_ok.Kinds.ps previous_ok.Kinds.r previous_ok.Reads.Learnt
-one-previous-ok _ _ _ _ = one-value (λ t. (t, (tt, (tt, (tt, (tt, (tt, tt)))))))
+one-previous-ok _ _ _ _ = one-value (λ t. (t, (tt, (tt, (tt, (tt, (tt, (tt, tt))))))))
 
 pub one-prior-slot : OneOutcome prior_slot.Kinds.ps prior_slot.Kinds.r prior_slot.Reads.Learnt
 one-prior-slot _ _ _ _ = one-value (λ t. (t, (tt, (tt, tt))))

@@ -7,6 +7,7 @@ pub mod Examination
 pub mod TestLaws
 pub mod ScratchLaws
 pub mod SlotLaws
+pub mod PreviousLaws
 pub mod MarkLaws
 pub mod ChainLaws
 pub mod LeadingLaws
