@@ -61,7 +61,7 @@ pub one-next-ok : OneOutcome next_ok.Kinds.ps next_ok.Kinds.r next_ok.Reads.Lear
 one-next-ok _ _ _ _ = one-value (λ t. (t, (tt, (tt, (tt, (tt, (tt, tt)))))))
 
 pub one-previous-ok : OneOutcome previous_ok.Kinds.ps previous_ok.Kinds.r previous_ok.Reads.Learnt
-one-previous-ok _ _ _ _ = one-value (λ t. (t, (tt, (tt, (tt, (tt, (tt, (tt, tt))))))))
+one-previous-ok _ _ _ _ = one-value (λ t. (t, (tt, (tt, (tt, (tt, (tt, tt)))))))
 
 pub one-prior-slot : OneOutcome prior_slot.Kinds.ps prior_slot.Kinds.r prior_slot.Reads.Learnt
 one-prior-slot _ _ _ _ = one-value (λ t. (t, (tt, (tt, tt))))

@@ -1,16 +1,13 @@
--- The test of previous and parent, chosen by values: where there is no parent, the node itself stands in its place.
--- By cases on whether each of the two is none.
-use mathlib.Core.Path.{_≡_, refl, sym}
+-- The test of previous and parent, where the one that leads to the node is chosen by value. By cases on whether each is none.
+use mathlib.Core.Path.{_≡_, refl, sym, ap, _∙_}
 use mathlib.Core.Bool.{Bool, true, false, cond}
 use mathlib.Core.List.{List}
-use Prim.Native.Nat.{ℕ, _<_, _≤_}
+use Prim.Native.Nat.{ℕ, _<_}
 use native.Mathlib.Omega.{arith}
 use lib.Dec.{eqb}
-use borrow.Author.Tests.{eq-eqb}
-use Rattle.link.specs.Ids.{slotOf, idOf}
-use Rattle.link.specs.Words.{STAMP, NEXT, FIRST, width, word}
+use borrow.Author.Tests.{eq-eqb, ne-eqb}
+use Rattle.link.specs.Words.{NEXT, FIRST, width}
 use Rattle.link.specs.Found.{foundB}
-use Rattle.link.specs.FoundLaws.{held-found, is-found}
 use Rattle.examine.specs.Slots.{hasB, leadOk, noneOrFoundB, previousOk}
 
 -- The word by which the node that leads to another names it.
@@ -21,58 +18,46 @@ pub lead-below : (none : Bool) → leadWord none < width
 lead-below true = omega arith
 lead-below false = omega arith
 
-both : (a b : Bool) → cond a b false ≡ cond b a false
-both true true = refl
-both true false = refl
-both false true = refl
-both false false = refl
+module _ (m : List ℕ) (used x parent previous : ℕ) where
+  pub rootless-first : parent ≡ 0 → previous ≡ 0 → true ≡ previousOk m used x parent previous
+  unfolding previousOk leadOk
+  rootless-first p q = simp (eq-eqb parent 0 p, eq-eqb previous 0 q)
 
-same : (a b : Bool) → cond a (cond a b false) false ≡ cond a b false
-same true b = refl
-same false b = refl
+  pub rootless-later : {r : Bool} → parent ≡ 0 → (previous ≡ 0 → ⊥) → r ≡ hasB m used previous NEXT x NEXT x → r ≡ previousOk m used x parent previous
+  unfolding previousOk noneOrFoundB
+  rootless-later p q e = simp (eq-eqb parent 0 p, ne-eqb previous 0 q) (e ∙ sym (whole (hasB m used previous NEXT x NEXT x)))
+    where
+      whole : (b : Bool) → cond b true false ≡ b
+      whole true = refl
+      whole false = refl
 
-module _ (m : List ℕ) (used : ℕ) where
-  -- what has a given word is found: asked twice is asked once
-  has-found : (y k a : ℕ) → cond (foundB m used y) (hasB m used y k a k a) false ≡ hasB m used y k a k a
+  -- what leads to x, and by which word
+  abbrev leads : Bool → Bool
+  leads none = hasB m used (cond none parent previous) (leadWord none) x (leadWord none) x
+
+  -- under a parent
+  led : (none : Bool) → cond (leads none) (foundB m used parent) false
+      ≡ cond none (hasB m used parent FIRST x FIRST x) (cond (hasB m used previous NEXT x NEXT x) (foundB m used parent) false)
   unfolding hasB
-  has-found y k a = same (foundB m used y) _
+  led true = twice (foundB m used parent) _
+    where
+      twice : (f g : Bool) → cond (cond f g false) f false ≡ cond f g false
+      twice true true = refl
+      twice true false = refl
+      twice false g = refl
+  led false = refl
 
-  -- a found node has the word it has
-  has-own : (x k a : ℕ) → foundB m used x ≡ true → a ≡ word m (slotOf x) k → hasB m used x k a k a ≡ true
-  unfolding hasB
-  has-own x k a f e = simp (f, eq-eqb (word m (slotOf x) k) a (sym e))
-
-  module _ (x parent previous first : ℕ) (f : foundB m used x ≡ true) (e : first ≡ word m (slotOf x) FIRST) where
-    abbrev chosen : Bool → Bool → Bool
-    chosen p q =
-        cond (foundB m used (cond p x parent))
-        (hasB m used (cond q (cond p x parent) previous) (leadWord q) (cond q (cond p first x) x) (leadWord q) (cond q (cond p first x) x)) false
-
-    abbrev meant : Bool → Bool → Bool
-    meant p q =
-        cond q (cond p true (hasB m used parent FIRST x FIRST x))
-        (cond (hasB m used previous NEXT x NEXT x) (cond p true (foundB m used parent)) false)
-
-    cases : (p q : Bool) → chosen p q ≡ meant p q
-    cases true true = rw f (has-own x FIRST first f e)
-    cases false true = has-found parent FIRST x
-    cases true false = rw f (both true (hasB m used previous NEXT x NEXT x))
-    cases false false = both (foundB m used parent) (hasB m used previous NEXT x NEXT x)
-
-    whole : chosen (eqb parent 0) (eqb previous 0) ≡ previousOk m used x parent previous
+  module _ {lead k : ℕ} {b : Bool} (p : parent ≡ 0 → ⊥) (l : lead ≡ cond (eqb previous 0) parent previous) (w : k ≡ leadWord (eqb previous 0))
+      (h : b ≡ hasB m used lead k x k x) where
+    known : cond b (foundB m used parent) false ≡ previousOk m used x parent previous
     unfolding previousOk leadOk noneOrFoundB
-    whole = cases (eqb parent 0) (eqb previous 0)
+    known =
+        simp (ne-eqb parent 0 p)
+        (ap (λ (t : Bool). cond t (foundB m used parent) false) (h ∙ ap (λ (y : ℕ). hasB m used y k x k x) l ∙ ap (λ (j : ℕ). hasB m used (cond (eqb previous 0) parent previous) j x j x) w)
+        ∙ led (eqb previous 0))
 
-    pub previous-found : (r : Bool) (up lead k child back : ℕ) → up ≡ cond (eqb parent 0) x parent → lead ≡ cond (eqb previous 0) up previous
-        → k ≡ leadWord (eqb previous 0) → child ≡ cond (eqb parent 0) first x → back ≡ cond (eqb previous 0) child x
-        → foundB m used up ≡ true → r ≡ hasB m used lead k back k back → r ≡ previousOk m used x parent previous
-    previous-found r up lead k child back a b c d g h i = let w = whole in cc
+    pub led-found : {r : Bool} → b ≡ true → r ≡ foundB m used parent → r ≡ previousOk m used x parent previous
+    led-found e f = f ∙ ap (λ (t : Bool). cond t (foundB m used parent) false) (sym e) ∙ known
 
-    pub previous-lost : (up : ℕ) → up ≡ cond (eqb parent 0) x parent → foundB m used up ≡ false → false ≡ previousOk m used x parent previous
-    previous-lost up a h = let w = whole in cc
-
-  -- The live node of a slot in use is found.
-  pub live-found : (s w : ℕ) → 0 < s → s ≤ used → w ≤ 32767 → word m s STAMP ≡ w → foundB m used (idOf s w) ≡ true
-  live-found s w a b c e =
-      let i : slotOf (idOf s w) ≡ s = omega arith in
-      is-found m used (idOf s w) (held-found m used (idOf s w) (omega arith) (omega arith) (omega arith) (rw i (omega arith)))
+    pub led-lost : b ≡ false → false ≡ previousOk m used x parent previous
+    led-lost e = ap (λ (t : Bool). cond t (foundB m used parent) false) (sym e) ∙ known

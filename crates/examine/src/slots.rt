@@ -1,15 +1,14 @@
 // The first pass: each live slot's words are read once, and each neighbour is visited once.
-// All functions ask that the slots in use lie within the memory; `previous_ok` and `kin`, also that the node is found.
+// All functions ask only that the slots in use lie within the memory.
 use link::id::slot_of;
 use link::id::stamp_of;
 use link::words::Slot;
 use link::words::get_word;
 ghost use mathlib.Core.Path.{_≡_};
-ghost use mathlib.Core.Bool.{true, cond};
+ghost use mathlib.Core.Bool.{cond};
 ghost use Prim.Native.Nat.{_+_, _*_, _<_, _≤_};
 ghost use lib.ListN.{length};
-ghost use Rattle.link.specs.Ids.{slotOf};
-ghost use Rattle.link.specs.Words.{width, FIRST, word};
+ghost use Rattle.link.specs.Words.{width};
 ghost use Rattle.link.specs.Found.{foundB};
 ghost use Rattle.examine.specs.Slots.{hasB, childrenOk, nextOk, previousOk, priorSlot, kinOf, look, lookRun};
 
@@ -74,7 +73,7 @@ pub fn next_ok(words: &[u32], used: u32, x: u32, parent: u32, next: u32) -> bool
     has(words, used, next, Slot::PREVIOUS, x, Slot::PARENT, parent)
 }
 
-// One of two numbers by value: whether a node has a previous sibling or a parent cannot be predicted.
+// One of two numbers by value: whether a node has a sibling before it cannot be predicted.
 fn pick(first: bool, a: u32, b: u32) -> u32
     ensures { λ r. ⌜ r ≡ cond first a b ⌝ }
 {
@@ -84,19 +83,22 @@ fn pick(first: bool, a: u32, b: u32) -> u32
     b
 }
 
-// Previous and parent: nothing before x, and no parent or one whose first child is x; or a sibling that knows x as its next, and no
-// parent or one that is found. Where there is no parent, x stands in its place, found and with its own first child.
-pub fn previous_ok(words: &[u32], used: u32, x: u32, parent: u32, previous: u32, first: u32) -> bool
-    requires { ⌜ (used * width ≤ length (now words)) × (foundB (now words) used x ≡ true) × (first ≡ word (now words) (slotOf x) FIRST) ⌝ }
+// Previous and parent. Without a parent: nothing before x, or a sibling that knows x as its next. Else the one that leads to x, which is
+// the sibling before it or the parent, knows it by that link, and the parent is found.
+pub fn previous_ok(words: &[u32], used: u32, x: u32, parent: u32, previous: u32) -> bool
+    requires { ⌜ used * width ≤ length (now words) ⌝ }
     ensures { λ r. ⌜ r ≡ previousOk (now (words .entry)) used x parent previous ⌝ }
 {
-    let up = pick(parent == 0, x, parent);
-    if found_within(words, used, up) {
-        let lead = pick(previous == 0, up, previous);
-        let k = pick(previous == 0, Slot::FIRST, Slot::NEXT);
-        let child = pick(parent == 0, first, x);
-        let back = pick(previous == 0, child, x);
-        return has(words, used, lead, k, back, k, back);
+    if parent == 0 {
+        if previous == 0 {
+            return true;
+        }
+        return has(words, used, previous, Slot::NEXT, x, Slot::NEXT, x);
+    }
+    let lead = pick(previous == 0, parent, previous);
+    let k = pick(previous == 0, Slot::FIRST, Slot::NEXT);
+    if has(words, used, lead, k, x, k, x) {
+        return found_within(words, used, parent);
     }
     false
 }
@@ -113,7 +115,7 @@ pub fn prior_slot(parent: u32, previous: u32) -> u32
 
 // A live slot with all its neighbours: the slot that leads to it, or BAD.
 pub fn kin(words: &[u32], used: u32, s: u32, x: u32) -> u32
-    requires { ⌜ (0 < s) × (s ≤ used) × (used * width ≤ length (now words)) × (foundB (now words) used x ≡ true) × (slotOf x ≡ s) ⌝ }
+    requires { ⌜ (0 < s) × (s ≤ used) × (used * width ≤ length (now words)) ⌝ }
     ensures { λ r. ⌜ r ≡ kinOf (now (words .entry)) used s x ⌝ }
 {
     let parent = get_word(words, s, Slot::PARENT);
@@ -121,7 +123,7 @@ pub fn kin(words: &[u32], used: u32, s: u32, x: u32) -> u32
     let next = get_word(words, s, Slot::NEXT);
     let first = get_word(words, s, Slot::FIRST);
     let last = get_word(words, s, Slot::LAST);
-    if previous_ok(words, used, x, parent, previous, first) {
+    if previous_ok(words, used, x, parent, previous) {
         if next_ok(words, used, x, parent, next) {
             if children_ok(words, used, x, first, last) {
                 return prior_slot(parent, previous);

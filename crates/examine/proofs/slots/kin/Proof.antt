@@ -3,7 +3,6 @@ use mathlib.Core.Path.{_≡_}
 use mathlib.Core.Bool.{true, false}
 use borrow.Author.Needs.{needs}
 use denote.Ref.{now}
-use Rattle.link.specs.Ids.{slotOf}
 use Rattle.link.specs.Words.{PARENT, PREVIOUS, NEXT, FIRST, LAST, word}
 use Rattle.examine.specs.Slots.{kinOf, kinOk, previousOk, nextOk, childrenOk}
 use Rattle.examine.proofs.slots.kin.Statement.{statement}
@@ -25,10 +24,7 @@ get-word-requires-5 : tie.Need-get-word-requires-5
 get-word-requires-5 c κs = search needs
 
 previous-ok-requires : tie.Need-previous-ok-requires
-previous-ok-requires c κs =
-    let a = c .before .before .before .before .before .before .args in
-    let e : c .before .get-word4 .result ≡ word (now (a .words)) (slotOf (a .x)) FIRST = cc in
-    search needs
+previous-ok-requires c κs = search needs
 
 next-ok-requires : tie.Need-next-ok-requires
 next-ok-requires c κs = search needs

@@ -1,16 +1,12 @@
 -- The contract of `examine::slots::look_at`.
-use mathlib.Core.Path.{_≡_, sym}
-use mathlib.Core.Bool.{true}
+use mathlib.Core.Path.{_≡_}
 use Prim.Native.Nat.{_%_}
 use native.Mathlib.Omega.{arith}
 use borrow.Author.Tests.{lt-ltb, le-ltb}
 use borrow.Author.Needs.{needs}
 use denote.Ref.{now}
-use Rattle.link.specs.Ids.{slotOf, idOf}
 use Rattle.link.specs.Words.{STAMP, word}
-use Rattle.link.specs.Found.{foundB}
 use Rattle.examine.specs.Slots.{look}
-use Rattle.examine.specs.PreviousLaws.{live-found}
 use Rattle.examine.proofs.slots.look_at.Statement.{statement}
 use Rattle.examine.proofs.slots.look_at.Tie as tie
 
@@ -40,12 +36,7 @@ add-kin : tie.Need-add-kin
 add-kin c = search needs
 
 kin-requires : tie.Need-kin-requires
-kin-requires c κs =
-    let a = c .before .before .before .before .args in
-    let w = c .before .before .get-word .result in
-    let f : foundB (now (a .words)) (a .used) (idOf (a .s) w) ≡ true = live-found (now (a .words)) (a .used) (a .s) w (c .before .before .before .before .pre .0) (c .before .before .before .before .pre .1) (omega arith) (sym (c .before .before .get-word .ensures)) in
-    let i : slotOf (idOf (a .s) w) ≡ a .s = omega arith in
-    search needs
+kin-requires c κs = search needs
 
 returns-3 : tie.Need-returns-3
 unfolding look
