@@ -2,6 +2,7 @@
 //! Tables: `validator`; `batch`, mixed commands and how a command's cost grows; `reading`, which is walks, lists, one checked append and
 //! images; `program`, the program `lift`. All of them where none is named.
 
+mod cache;
 #[path = "../common/dice.rs"]
 mod dice;
 mod mixed;

@@ -1,5 +1,6 @@
 //! Walks and lists against the crate's iterators, one checked append with its examination, and the image against a copy.
 
+use crate::cache;
 use crate::dice::Dice;
 use crate::ours::LISTS;
 use crate::shapes::{chain, churned, random_tree};
@@ -173,8 +174,10 @@ const MEASURED: [(usize, &str); 6] =
 pub fn tables(rounds: usize, aims: &mut Aims) {
     println!("\n| what | of | indextree or copy, µs | library, µs | ratio |");
     println!("|---|---|---|---|---|");
+    let mut shares = Vec::new();
     for slots in [2_048, 65_535] {
         for mut s in sides(slots) {
+            shares.extend(cache::share().map(|share| format!("{}: {share}", s.name)));
             let walked = walk(&s, rounds);
             row("walk, 256 edges at a time, against `traverse`", &s.name, walked);
             aims.add(&format!("stepped walk, {slots} slots"), 0.8, walked.1 / walked.0);
@@ -195,5 +198,11 @@ pub fn tables(rounds: usize, aims: &mut Aims) {
                 image(&s, slots, rounds, aims);
             }
         }
+    }
+    if !shares.is_empty() {
+        println!("\nThe first-level data cache, before each walk:");
+    }
+    for share in shares {
+        println!("- {share}");
     }
 }

@@ -45,6 +45,7 @@ fn perform_ready(
     ensures { λ r. ⌜ Performs (before (take (2 * from) (now (list .entry))) (performed (n - from) (now (trace .entry)) (from * size) (now (words .entry)) h (now (scratch .entry)))) (now (list .entry)) (now (words .exit)) (now (scratch .exit)) (now (list .exit)) r ⌝ }
 {
     let arguments = Code::ARGUMENTS;
+    let limits = Code::LIMITS;
     let kinds = Code::KINDS;
     let details = Code::DETAILS;
     let mut header = h;
@@ -58,6 +59,7 @@ fn perform_ready(
             scratch,
             zeros,
             &arguments,
+            &limits,
             &kinds,
             &details,
             c,
@@ -94,11 +96,12 @@ pub fn perform(
     ensures { λ r. ⌜ Performs (performed n (now (trace .entry)) 0 (now (words .entry)) h (now (scratch .entry))) (now (list .entry)) (now (words .exit)) (now (scratch .exit)) (now (list .exit)) r ⌝ }
 {
     let arguments = Code::ARGUMENTS;
+    let limits = Code::LIMITS;
     let mut knows = known;
     let mut i = 0;
     while i < n {
         let c = command_at(trace, i * Trace::SIZE);
-        let begun = start(words, h, scratch, knows, &arguments, c);
+        let begun = start(words, h, scratch, knows, &arguments, &limits, c);
         let known = begun.known;
         if begun.ready {
             return perform_ready(words, h, scratch, known.clean, trace, i, n, list);

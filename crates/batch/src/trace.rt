@@ -1,6 +1,5 @@
 // A trace: commands of twelve bytes, one after another, and perhaps a part of one at the end.
 use command::command::Command;
-use little_endian::number::get_24;
 use little_endian::number::get_32;
 ghost use mathlib.Core.Path.{_≡_};
 ghost use Prim.Native.Nat.{_+_, _≤_};
@@ -19,9 +18,10 @@ pub fn command_at(trace: &[u8], at: usize) -> Command
     requires { ⌜ at + size ≤ length (now trace) ⌝ }
     ensures { λ r. ⌜ r ≡ commandAt (now (trace .entry)) at ⌝ }
 {
+    let first = get_32(trace, at);
     Command {
-        code: trace[at],
-        unused: get_24(trace, at + 1),
+        code: (first % 256) as u8,
+        unused: first / 256,
         a: get_32(trace, at + 4),
         b: get_32(trace, at + 8),
     }

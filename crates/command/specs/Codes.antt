@@ -15,6 +15,10 @@ argumentTable = 1 ∷ 1 ∷ 2 ∷ 2 ∷ 2 ∷ 2 ∷ 2 ∷ 1 ∷ 1 ∷ 1 ∷ 1 �
 abbrev pub argumentsOf : ℕ → ℕ
 argumentsOf code = getD argumentTable (code - 1) 0
 
+-- The greatest first and second argument where none is used, one is, or two are.
+abbrev pub limitTable : List ℕ
+limitTable = 0 ∷ 0 ∷ 4294967295 ∷ 0 ∷ 4294967295 ∷ 4294967295 ∷ []
+
 -- An argument that is not used is zero.
 abbrev pub spared : Bool → ℕ → Bool
 spared used argument = cond used true (eqb argument 0)

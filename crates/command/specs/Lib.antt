@@ -1,4 +1,5 @@
 pub mod Codes
+pub mod LimitLaws
 pub mod Calls
 pub mod Kinds
 pub mod KindLaws

@@ -12,7 +12,7 @@ use rules::answer::Number;
 use sound::fit;
 ghost use mathlib.Core.Path.{_≡_};
 ghost use Rattle.rules.specs.Answers.{answer};
-ghost use Rattle.command.specs.Codes.{argumentTable};
+ghost use Rattle.command.specs.Codes.{argumentTable, limitTable};
 ghost use Rattle.command.specs.Kinds.{kindTable, detailTable};
 ghost use Rattle.command.specs.Commands.{commanded};
 ghost use Rattle.command.specs.Known.{ready, Knows, Did};
@@ -76,16 +76,17 @@ pub fn act(
     scratch: &mut [u32],
     clean: usize,
     arguments: &[u8; 24],
+    limits: &[u32; 6],
     kinds: &[u8; 24],
     details: &[u8; 24],
     c: Command,
 ) -> Acted
-    requires { ⌜ Knows (now words) h (now scratch) (ready clean) × (now arguments ≡ argumentTable) × (now kinds ≡ kindTable) × (now details ≡ detailTable) ⌝ }
+    requires { ⌜ Knows (now words) h (now scratch) (ready clean) × (now arguments ≡ argumentTable) × (now limits ≡ limitTable) × (now kinds ≡ kindTable) × (now details ≡ detailTable) ⌝ }
     ensures { λ r. ⌜ Did (commanded c (now (words .entry)) h (now (scratch .entry))) (now (words .exit)) (now (scratch .exit)) (r .answer) (ready (r .clean)) ⌝ }
 {
     match c.code {
         Code::NEW..=Code::LAST => {
-            if is_acceptable(arguments, c.code, c.unused, c.a, c.b) {
+            if is_acceptable(arguments, limits, c.code, c.unused, c.a, c.b) {
                 let kind = kinds[(c.code - 1) as usize];
                 let room = admit(words, h, scratch, clean, kind);
                 if room.number == Number::DONE {

@@ -1,7 +1,7 @@
 // The code table: how many arguments each code uses, what leads to its work, and whether a command of a known code is acceptable.
 ghost use mathlib.Core.Path.{_≡_};
 ghost use Prim.Native.Nat.{_<_, _≤_};
-ghost use Rattle.command.specs.Codes.{argumentTable, argumentsOf, spared, acceptable};
+ghost use Rattle.command.specs.Codes.{argumentTable, limitTable, argumentsOf, acceptable};
 
 // The codes of document 01, 1 to 24.
 pub struct Code(pub u8);
@@ -68,6 +68,9 @@ impl Code {
         2,
         2,
     ];
+
+    // The greatest first and second argument of a code that uses none, one or two: an argument that is not used is zero.
+    pub const LIMITS: [u32; 6] = [0, 0, 4294967295, 0, 4294967295, 4294967295];
 
     // The kind of each code, and its detail: the place of a move or a value form, from 0 on, and the word of a read.
     pub const KINDS: [u8; 24] = [
@@ -165,30 +168,25 @@ pub fn arguments_of(table: &[u8; 24], code: u8) -> u8
     table[(code - 1) as usize]
 }
 
-// An argument that is not used is zero.
-fn is_spared(used: bool, argument: u32) -> bool
-    ensures { λ r. ⌜ r ≡ spared used argument ⌝ }
-{
-    if used {
-        return true;
-    }
-    argument == 0
-}
-
-// Of a known code: whether its three unused bytes are zero, and each argument that it does not use. The table is lent, so that a
-// batch lays it out once.
-pub fn is_acceptable(table: &[u8; 24], code: u8, unused: u32, a: u32, b: u32) -> bool
-    requires { ⌜ (now table ≡ argumentTable) × (0 < code) × (code ≤ 24) ⌝ }
+// Of a known code: whether its three unused bytes are zero, and each argument that it does not use. The tables are lent, so
+// that a batch lays them out once.
+pub fn is_acceptable(
+    table: &[u8; 24],
+    limits: &[u32; 6],
+    code: u8,
+    unused: u32,
+    a: u32,
+    b: u32,
+) -> bool
+    requires { ⌜ (now table ≡ argumentTable) × (now limits ≡ limitTable) × (0 < code) × (code ≤ 24) ⌝ }
     ensures { λ r. ⌜ r ≡ acceptable code unused a b ⌝ }
 {
     if unused != 0 {
         return false;
     }
-    let count = arguments_of(table, code);
-    let second = is_spared(1 < count, b);
-    let first = is_spared(0 < count, a);
-    if second {
-        return first;
+    let at = 2 * (arguments_of(table, code) as usize);
+    if limits[at] < a {
+        return false;
     }
-    false
+    b <= limits[at + 1]
 }

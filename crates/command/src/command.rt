@@ -21,7 +21,8 @@ pub fn one_command(words: &mut [u32], h: Header, scratch: &mut [u32], c: Command
     ensures { λ r. ⌜ (now (words .exit), now (scratch .exit), r) ≡ commanded c (now (words .entry)) h (now (scratch .entry)) ⌝ }
 {
     let arguments = Code::ARGUMENTS;
-    let begun = start(words, h, scratch, nothing(), &arguments, c);
+    let limits = Code::LIMITS;
+    let begun = start(words, h, scratch, nothing(), &arguments, &limits, c);
     if begun.ready {
         let known = begun.known;
         let kinds = Code::KINDS;
@@ -32,6 +33,7 @@ pub fn one_command(words: &mut [u32], h: Header, scratch: &mut [u32], c: Command
             scratch,
             known.clean,
             &arguments,
+            &limits,
             &kinds,
             &details,
             c,

@@ -19,7 +19,7 @@ use sound::sound_result;
 ghost use mathlib.Core.Path.{_≡_};
 ghost use Rattle.rules.specs.Answers.{reply};
 ghost use Rattle.sound.specs.Guard.{readyNo};
-ghost use Rattle.command.specs.Codes.{argumentTable};
+ghost use Rattle.command.specs.Codes.{argumentTable, limitTable};
 ghost use Rattle.command.specs.Commands.{called, commanded};
 ghost use Rattle.command.specs.Known.{Knows, Gated};
 ghost use Rattle.command.specs.Acts.{replies, readies, Enters, Starts};
@@ -156,9 +156,10 @@ pub fn start(
     scratch: &mut [u32],
     known: Known,
     arguments: &[u8; 24],
+    limits: &[u32; 6],
     c: Command,
 ) -> Begun
-    requires { ⌜ Knows (now words) h (now scratch) known × (now arguments ≡ argumentTable) ⌝ }
+    requires { ⌜ Knows (now words) h (now scratch) known × (now arguments ≡ argumentTable) × (now limits ≡ limitTable) ⌝ }
     ensures { λ r. ⌜ Starts (commanded c) (now (words .entry)) h (now (scratch .entry)) (now (words .exit)) (now (scratch .exit)) r ⌝ }
 {
     if is_ready(known) {
@@ -166,7 +167,7 @@ pub fn start(
     }
     match c.code {
         Code::NEW..=Code::LAST => {
-            if is_acceptable(arguments, c.code, c.unused, c.a, c.b) {
+            if is_acceptable(arguments, limits, c.code, c.unused, c.a, c.b) {
                 return begin(words, h, scratch, known, call_of(c.code), c.a, c.b);
             }
             refused(Number::COMMAND, known)

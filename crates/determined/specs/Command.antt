@@ -37,7 +37,7 @@ pub one-arguments-of : OneOutcome arguments_of.Kinds.ps arguments_of.Kinds.r arg
 one-arguments-of _ _ _ _ = one-value (λ t. (t, (tt, (tt, tt))))
 
 pub one-is-acceptable : OneOutcome is_acceptable.Kinds.ps is_acceptable.Kinds.r is_acceptable.Reads.Learnt
-one-is-acceptable _ _ _ _ = one-value (λ t. (t, (tt, (tt, (tt, (tt, (tt, tt)))))))
+one-is-acceptable _ _ _ _ = one-value (λ t. (t, (tt, (tt, (tt, (tt, (tt, (tt, tt))))))))
 
 pub one-one-command : OneOutcome one_command.Kinds.ps one_command.Kinds.r one_command.Reads.Learnt
 one-one-command _ _ _ _ = one-value (λ t. (t .2, (t .0, (tt, (t .1, (tt, tt))))))
@@ -88,7 +88,7 @@ finished-same c m h s m′ s′ r S = by (r .ready) refl
 
 -- The command's outcome, once it is done. Open: whether it is answered at once where memory is ready, and what is remembered.
 pub seen-start :
-    OneSeen start.Kinds.ps start.Kinds.r Outcome (λ _ a x. finished (a .1 .1 .1 .1 .1 .0) (a .1 .0) (x .1 .0) (x .1 .1 .1 .0) (x .0)) start.Reads.Learnt
+    OneSeen start.Kinds.ps start.Kinds.r Outcome (λ _ a x. finished (a .1 .1 .1 .1 .1 .1 .0) (a .1 .0) (x .1 .0) (x .1 .1 .1 .0) (x .0)) start.Reads.Learnt
 seen-start _ a x y p q =
-    let c = a .1 .1 .1 .1 .1 .0 in
+    let c = a .1 .1 .1 .1 .1 .1 .0 in
     finished-same c _ (a .1 .0) _ (x .1 .0) (x .1 .1 .1 .0) (x .0) p ∙ sym (finished-same c _ (a .1 .0) _ (y .1 .0) (y .1 .1 .1 .0) (y .0) q)

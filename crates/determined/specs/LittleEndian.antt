@@ -2,7 +2,6 @@
 -- Excluded: bytes beside the number that may change.
 use Rattle.determined.specs.Outcome.{OneOutcome, one-value}
 use Rattle.little_endian.proofs.number.get_16
-use Rattle.little_endian.proofs.number.get_24
 use Rattle.little_endian.proofs.number.get_32
 use Rattle.little_endian.proofs.number.put_16
 use Rattle.little_endian.proofs.number.put_32
@@ -11,9 +10,6 @@ use Rattle.little_endian.proofs.words.get_words
 
 pub one-get-16 : OneOutcome get_16.Kinds.ps get_16.Kinds.r get_16.Reads.Learnt
 one-get-16 _ _ _ _ = one-value (λ t. (t, (tt, (tt, tt))))
-
-pub one-get-24 : OneOutcome get_24.Kinds.ps get_24.Kinds.r get_24.Reads.Learnt
-one-get-24 _ _ _ _ = one-value (λ t. (t, (tt, (tt, tt))))
 
 pub one-get-32 : OneOutcome get_32.Kinds.ps get_32.Kinds.r get_32.Reads.Learnt
 one-get-32 _ _ _ _ = one-value (λ t. (t, (tt, (tt, tt))))

@@ -61,6 +61,14 @@ pub number-step : (k : ℕ) (bytes : List ℕ) (at : ℕ) → at < length bytes 
 unfolding numberAt numberOf
 number-step k bytes at h = rw (add-one, drop-cons bytes at 0 h)
 
+-- The lowest byte of a number, and the number of those behind it.
+module _ (k : ℕ) (bytes : List ℕ) (at : ℕ) (inside : at < length bytes) (byte : getD bytes at 0 < 256) where
+  pub lowest : numberAt (suc k) bytes at % 256 ≡ getD bytes at 0
+  lowest = let e = number-step k bytes at inside in omega arith
+
+  pub behind-lowest : numberAt (suc k) bytes at / 256 ≡ numberAt k bytes (at + 1)
+  behind-lowest = let e = number-step k bytes at inside in omega arith
+
 pub length-withNumber : (k : ℕ) (bytes : List ℕ) (at x : ℕ) → length (withNumber k bytes at x) ≡ length bytes
 unfolding withNumber
 length-withNumber k bytes at x = length-sets bytes at (bytesOf k x)
@@ -83,14 +91,14 @@ four-stores bytes at x =
     let three : at + 3 ≡ suc (suc (suc at)) = omega arith in
     rw (third, fourth, one, two, three)
 
--- and the sums of two, of three and of four.
+-- and the sums of two and of four.
 pub two-read : (bytes : List ℕ) (at : ℕ) → at + 2 ≤ length bytes → numberAt 2 bytes at ≡ getD bytes at 0 + 256 * getD bytes (at + 1) 0
 two-read bytes at h =
     number-step 1 bytes at (omega arith)
     ∙ ap (λ (n : ℕ). getD bytes at 0 + 256 * n) (number-step 0 bytes (at + 1) (omega arith) ∙ ap (λ (n : ℕ). getD bytes (at + 1) 0 + 256 * n) (number-none bytes (at + 1 + 1)))
     ∙ omega arith
 
-pub three-read : (bytes : List ℕ) (at : ℕ) → at + 3 ≤ length bytes
+three-read : (bytes : List ℕ) (at : ℕ) → at + 3 ≤ length bytes
     → numberAt 3 bytes at ≡ getD bytes at 0 + 256 * getD bytes (at + 1) 0 + 65536 * getD bytes (at + 2) 0
 three-read bytes at h =
     let a = number-step 2 bytes at (omega arith) in

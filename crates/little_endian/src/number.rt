@@ -17,13 +17,6 @@ pub fn get_16(bytes: &[u8], at: usize) -> u32
     wide(bytes[at]) + 256 * wide(bytes[at + 1])
 }
 
-pub fn get_24(bytes: &[u8], at: usize) -> u32
-    requires { ⌜ at + 3 ≤ length (now bytes) ⌝ }
-    ensures { λ r. ⌜ r ≡ numberAt 3 (now (bytes .entry)) at ⌝ }
-{
-    wide(bytes[at]) + 256 * wide(bytes[at + 1]) + 65536 * wide(bytes[at + 2])
-}
-
 pub fn get_32(bytes: &[u8], at: usize) -> u32
     requires { ⌜ at + 4 ≤ length (now bytes) ⌝ }
     ensures { λ r. ⌜ r ≡ numberAt 4 (now (bytes .entry)) at ⌝ }

@@ -57,7 +57,7 @@ work-requires c κs =
     let a = c .before .before .before .before .before .before .before .before .before .before .before .before .before .before .before .before .before .before .before .before .args in
     let p = c .before .before .before .before .before .before .before .before .before .before .before .before .before .before .before .before .before .before .before .before .pre in
     let w = ready-knows (now (a .words)) (a .h) (now (a .scratch)) (p .0) in
-    (w .0, w .1, subst (λ (t : List ℕ). getD t (a .c .code - 1) 0 < width) (sym (p .3)) (detail-word (a .c .code - 1)))
+    (w .0, w .1, subst (λ (t : List ℕ). getD t (a .c .code - 1) 0 < width) (sym (p .4)) (detail-word (a .c .code - 1)))
 
 same-length : tie.Need-same-length
 same-length c = search needs
@@ -71,7 +71,7 @@ returns c =
     let p = c .before .before .before .before .before .before .before .before .before .before .before .before .before .before .before .before .before .before .before .before .before .before .before .pre in
     let x = a .c in
     did-accepted x (now (a .words)) (a .h) (now (a .scratch)) (sym (c .before .before .before .before .before .before .before .before .before .before .before .before .before .before .before .before .is-acceptable .ensures) ∙ c .before .before .before .before .before .before .before .before .before .before .before .before .before .before .before .if3 .taken)
-    (did-same (ap (λ (y : Call). called y (x .a) (x .b) (now (a .words)) (a .h) (now (a .scratch))) (by-tables (x .code) (p .2) (p .3) (c .before .before .before .before .before .before .before .before .before .before .before .before .before .before .before .before .before .before .before .if1 .left) (c .before .before .before .before .before .before .before .before .before .before .before .before .before .before .before .before .before .if2 .taken)))
+    (did-same (ap (λ (y : Call). called y (x .a) (x .b) (now (a .words)) (a .h) (now (a .scratch))) (by-tables (x .code) (p .3) (p .4) (c .before .before .before .before .before .before .before .before .before .before .before .before .before .before .before .before .before .before .before .if1 .left) (c .before .before .before .before .before .before .before .before .before .before .before .before .before .before .before .before .before .if2 .taken)))
     (did-acted (now (a .words)) (a .h) (now (a .scratch)) (getD (now (a .details)) (x .code - 1) 0) (x .a) (x .b) (getD (now (a .kinds)) (x .code - 1) 0) (c .before .before .before .before .before .before .before .before .before .before .admit .ensures) (c .before .before .before .before .before .before .if4 .taken) (c .before .before .work .ensures)))
 
 turn-down-requires : tie.Need-turn-down-requires
@@ -90,7 +90,7 @@ returns-2 c =
     let x = a .c in
     said (c .turn-down .ensures)
     (did-accepted x (now (a .words)) (a .h) (now (a .scratch)) (sym (c .before .before .before .before .before .before .before .before .before .before .before .is-acceptable .ensures) ∙ c .before .before .before .before .before .before .before .before .before .before .if3 .taken)
-    (did-same (ap (λ (y : Call). called y (x .a) (x .b) (now (a .words)) (a .h) (now (a .scratch))) (by-tables (x .code) (p .2) (p .3) (c .before .before .before .before .before .before .before .before .before .before .before .before .before .before .if1 .left) (c .before .before .before .before .before .before .before .before .before .before .before .before .if2 .taken)))
+    (did-same (ap (λ (y : Call). called y (x .a) (x .b) (now (a .words)) (a .h) (now (a .scratch))) (by-tables (x .code) (p .3) (p .4) (c .before .before .before .before .before .before .before .before .before .before .before .before .before .before .if1 .left) (c .before .before .before .before .before .before .before .before .before .before .before .before .if2 .taken)))
     (did-stopped (now (a .words)) (a .h) (now (a .scratch)) (getD (now (a .details)) (x .code - 1) 0) (x .a) (x .b) (getD (now (a .kinds)) (x .code - 1) 0) (c .before .before .before .before .before .admit .ensures) (c .before .if4 .left))))
 
 turn-down-requires-2 : tie.Need-turn-down-requires-2

@@ -11,10 +11,10 @@ nothing-requires : tie.Need-nothing-requires
 nothing-requires c κs = search needs
 
 start-requires : tie.Need-start-requires
-start-requires c κs = let a = c .before .before .before .before .before .before .args in (knows-nothing (now (a .words)) (a .h) (now (a .scratch)) (c .before .nothing .ensures .0) (c .before .nothing .ensures .1), refl)
+start-requires c κs = let a = c .before .before .before .before .before .before .before .args in (knows-nothing (now (a .words)) (a .h) (now (a .scratch)) (c .before .before .nothing .ensures .0) (c .before .before .nothing .ensures .1), refl, refl)
 
 act-requires : tie.Need-act-requires
-act-requires c κs = (readied-knows (c .before .before .before .before .before .before .before .before .before .before .before .start .ensures) (c .before .before .before .before .before .before .if1 .taken), refl, refl, refl)
+act-requires c κs = (readied-knows (c .before .before .before .before .before .before .before .before .before .before .before .before .start .ensures) (c .before .before .before .before .before .before .before .if1 .taken), refl, refl, refl, refl)
 
 same-length : tie.Need-same-length
 same-length c = search needs
@@ -23,7 +23,7 @@ same-length-2 : tie.Need-same-length-2
 same-length-2 c = search needs
 
 returns : tie.Need-returns
-returns c = c .before .before .before .before .before .act .ensures .same ∙ readied-same (c .before .before .before .before .before .before .before .before .before .before .before .before .before .before .before .before .before .start .ensures) (c .before .before .before .before .before .before .before .before .before .before .before .before .if1 .taken)
+returns c = c .before .before .before .before .before .act .ensures .same ∙ readied-same (c .before .before .before .before .before .before .before .before .before .before .before .before .before .before .before .before .before .before .start .ensures) (c .before .before .before .before .before .before .before .before .before .before .before .before .before .if1 .taken)
 
 same-length-3 : tie.Need-same-length-3
 same-length-3 c = search needs
