@@ -15,6 +15,7 @@ pub mod Removal
 pub mod Splice
 pub mod Walk
 pub mod Lists
+pub mod Preorder
 pub mod Subtree
 pub mod Walker
 pub mod LittleEndian

@@ -1,7 +1,6 @@
--- Crate lists: the eight lists and the descendant count. Its public functions, each with one outcome.
+-- Crate lists: the lists but that of descendants, and the descendant count. Its public functions, each with one outcome.
 -- Excluded: a refused list that may be written to; a list in any order of its members.
 use Rattle.determined.specs.Outcome.{OneOutcome, one-value}
-use Rattle.lists.proofs.calls.descendants
 use Rattle.lists.proofs.calls.leaves
 use Rattle.lists.proofs.calls.ancestors
 use Rattle.lists.proofs.calls.children
@@ -14,6 +13,7 @@ use Rattle.lists.proofs.levels.list_levels
 use Rattle.lists.proofs.lists.count_listed
 use Rattle.lists.proofs.lists.write_along
 use Rattle.lists.proofs.lists.write_listed
+use Rattle.lists.proofs.lists.fits
 use Rattle.lists.proofs.lists.list_nodes
 use Rattle.lists.proofs.lists.count_nodes
 use Rattle.lists.proofs.order.first_of
@@ -23,9 +23,6 @@ use Rattle.lists.proofs.order.near_link
 use Rattle.lists.proofs.order.far_link
 use Rattle.lists.proofs.order.link_else
 use Rattle.lists.proofs.order.keeps
-
-pub one-descendants : OneOutcome descendants.Kinds.ps descendants.Kinds.r descendants.Reads.Learnt
-one-descendants _ _ _ _ = one-value (λ t. (t .2, (tt, (tt, (t .0, (tt, (t .1, tt)))))))
 
 pub one-leaves : OneOutcome leaves.Kinds.ps leaves.Kinds.r leaves.Reads.Learnt
 one-leaves _ _ _ _ = one-value (λ t. (t .2, (tt, (tt, (t .0, (tt, (t .1, tt)))))))
@@ -62,6 +59,9 @@ one-write-along _ _ _ _ = one-value (λ t. (t .1, (tt, (tt, (tt, (tt, (tt, (t .0
 
 pub one-write-listed : OneOutcome write_listed.Kinds.ps write_listed.Kinds.r write_listed.Reads.Learnt
 one-write-listed _ _ _ _ = one-value (λ t. (t .1, (tt, (tt, (tt, (tt, (t .0, (tt, tt))))))))
+
+pub one-fits : OneOutcome fits.Kinds.ps fits.Kinds.r fits.Reads.Learnt
+one-fits _ _ _ _ = one-value (λ t. (t, (tt, (tt, (tt, (tt, (tt, tt)))))))
 
 pub one-list-nodes : OneOutcome list_nodes.Kinds.ps list_nodes.Kinds.r list_nodes.Reads.Learnt
 one-list-nodes _ _ _ _ = one-value (λ t. (t .1, (tt, (tt, (tt, (tt, (t .0, tt)))))))

@@ -47,7 +47,7 @@ use Rattle.sound.proofs.validate
 use Rattle.arena.proofs.arena.census
 use Rattle.arena.proofs.arena.live_count
 use Rattle.lists.proofs.calls.descendant_count
-use Rattle.lists.proofs.calls.descendants
+use Rattle.preorder.proofs.calls.descendants
 use Rattle.lists.proofs.calls.leaves
 use Rattle.lists.proofs.calls.ancestors
 use Rattle.lists.proofs.calls.children

@@ -9,7 +9,7 @@ use sound::guard;
 ghost use mathlib.Core.Path.{_≡_};
 ghost use Rattle.sound.specs.Guard.{guardedRead};
 ghost use Rattle.lists.specs.Listing.{listed, levelsListed, counted, guardedList};
-ghost use Rattle.lists.specs.declared.order.Order.the-variants.{Ancestors, Predecessors, PrecedingSiblings, FollowingSiblings, Children, Descendants, Leaves};
+ghost use Rattle.lists.specs.declared.order.Order.the-variants.{Ancestors, Predecessors, PrecedingSiblings, FollowingSiblings, Children, Leaves};
 
 // A list by an order.
 fn guarded_list(
@@ -30,20 +30,7 @@ fn guarded_list(
     Reply { number, result: 0 }
 }
 
-// The node and all below it, in preorder.
-pub fn descendants(
-    words: &[u32],
-    h: Header,
-    scratch: &mut [u32],
-    id: u32,
-    list: &mut [u32],
-) -> Reply
-    ensures { λ r. ⌜ (now (scratch .exit), now (list .exit), r) ≡ guardedList (now (words .entry)) h (now (scratch .entry)) (now (list .entry)) (listed (now (words .entry)) (h .used) Descendants id (now (list .entry))) ⌝ }
-{
-    guarded_list(words, h, scratch, Order::Descendants, id, list)
-}
-
-// Those of them that have no children.
+// The node and all below it that have no children.
 pub fn leaves(words: &[u32], h: Header, scratch: &mut [u32], id: u32, list: &mut [u32]) -> Reply
     ensures { λ r. ⌜ (now (scratch .exit), now (list .exit), r) ≡ guardedList (now (words .entry)) h (now (scratch .entry)) (now (list .entry)) (listed (now (words .entry)) (h .used) Leaves id (now (list .entry))) ⌝ }
 {

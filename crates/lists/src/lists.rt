@@ -178,7 +178,7 @@ pub fn write_listed(
 }
 
 // Whether the list fits the places; it is counted only where it could be longer.
-fn fits(words: &[u32], used: u32, order: Order, root: u32, places: usize) -> bool
+pub fn fits(words: &[u32], used: u32, order: Order, root: u32, places: usize) -> bool
     ensures { λ r. ⌜ r ≡ not (ltb places (length (ordered (now (words .entry)) used order root))) ⌝ }
 {
     if (used as usize) <= places {

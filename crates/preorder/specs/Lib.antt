@@ -1,0 +1,4 @@
+pub mod Stack
+pub mod Pending
+pub mod StackLaws
+pub mod TurnLaws
