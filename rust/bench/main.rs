@@ -49,5 +49,6 @@ fn main() {
         let theirs = [emulator, vec!["target/rust/program".into()]].concat();
         program::table(rounds, &theirs, &["tools/run".into(), "lift".into()], &mut aims);
     }
+    cache::print();
     aims.print();
 }

@@ -143,7 +143,10 @@ mod plain {
         let count = trace.len() / 12;
         assert!(answers.len() >= 2 * count);
         // It writes the words, the header and two words for each command.
-        assert_eq!(unsafe { plain_batch(words.as_mut_ptr(), words.len(), header.as_mut_ptr(), trace.as_ptr(), count, answers.as_mut_ptr()) }, 0);
+        assert_eq!(
+            unsafe { plain_batch(words.as_mut_ptr(), words.len(), header.as_mut_ptr(), trace.as_ptr(), count, answers.as_mut_ptr()) },
+            0
+        );
     }
 }
 

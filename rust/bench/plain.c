@@ -1,6 +1,6 @@
-/* The batch in plain C, for the benchmark alone: what the machine allows the design of crate `splice` to take. One write from each side of a
- * place, chosen by values; it takes memory for ready, looks at no bound, and knows the codes 1 to 17 and 21 to 24 only. Nothing is proved of it;
- * the benchmark compares its answers and words with the library's. */
+/* The batch and the stepped walk in plain C, for the benchmark alone: what the machine allows. The batch has the design of crate `splice`: one
+ * write from each side of a place, chosen by values; it takes memory for ready, looks at no bound, and knows the codes 1 to 17 and 21 to 24 only.
+ * Nothing is proved of either; the benchmark compares what they answer with the library. */
 #include <stddef.h>
 #include <stdint.h>
 #include <string.h>
@@ -186,4 +186,33 @@ uint32_t plain_batch(uint32_t *words, size_t words_len, uint32_t header[3], cons
     header[1] = a->first;
     header[2] = a->last;
     return DONE;
+}
+
+/* At most `budget` edges from the one that is next, which is then the one behind them, or 0 where there is none. The walk's own tests and no others. */
+uint32_t plain_walk(const uint32_t *words, uint32_t used, uint32_t root, uint32_t *next, uint32_t budget, uint32_t *list) {
+    Arena a = {(uint32_t *)words, used, 0, 0, 0};
+    uint32_t x = *next & ~UINT32_C(32768), n = 0;
+    if (x != *next) goto up;
+down:
+    while (n < budget) {
+        if (!found(&a, x)) return *next = 0, n;
+        list[n++] = x;
+        uint32_t child = *at(&a, x, FIRST);
+        if (!child) goto up;
+        x = child;
+    }
+    return *next = x, n;
+up:
+    while (n < budget) {
+        if (!found(&a, x)) return *next = 0, n;
+        list[n++] = x + 32768;
+        if (x == root) return *next = 0, n;
+        uint32_t sibling = *at(&a, x, NEXT);
+        if (sibling) {
+            x = sibling;
+            goto down;
+        }
+        x = *at(&a, x, PARENT);
+    }
+    return *next = x + 32768, n;
 }

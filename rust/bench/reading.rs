@@ -1,6 +1,5 @@
 //! Walks and lists against the crate's iterators, one checked append with its examination, and the image against a copy.
 
-use crate::cache;
 use crate::dice::Dice;
 use crate::ours::LISTS;
 use crate::shapes::{chain, churned, random_tree};
@@ -43,14 +42,18 @@ fn row(what: &str, of: &str, (theirs, ours): (f64, f64)) {
     println!("| {what} | {of} | {} | {} | {:.2} |", micro(theirs), micro(ours), ours / theirs);
 }
 
+/// An edge as document 01 writes it.
+fn word(edge: NodeEdge) -> u32 {
+    match edge {
+        NodeEdge::Start(id) => id.number(),
+        NodeEdge::End(id) => id.number() + 32_768,
+    }
+}
+
 /// The whole walk, 256 edges at a time, against `traverse`: both sum up what they see.
 fn walk(s: &Sides, rounds: usize) -> (f64, f64) {
     let theirs = || {
-        let sum = s.root.traverse(&s.arena).fold(0u32, |sum, edge| match edge {
-            NodeEdge::Start(id) => sum.wrapping_add(id.number()),
-            NodeEdge::End(id) => sum.wrapping_add(id.number() + 32_768),
-        });
-        black_box(sum);
+        black_box(s.root.traverse(&s.arena).fold(0u32, |sum, edge| sum.wrapping_add(word(edge))));
     };
     let mut list = [0; 256];
     let mut ours = || {
@@ -63,6 +66,49 @@ fn walk(s: &Sides, rounds: usize) -> (f64, f64) {
         black_box(sum);
     };
     interleaved(rounds, || time(s.calls, theirs), || time(s.calls, &mut ours))
+}
+
+mod plain {
+    unsafe extern "C" {
+        fn plain_walk(words: *const u32, used: u32, root: u32, next: *mut u32, budget: u32, list: *mut u32) -> u32;
+    }
+
+    /// Edges of the walk in plain C, as many as there are places.
+    pub fn walk(words: &[u32], used: u32, root: u32, next: &mut u32, list: &mut [u32]) -> u32 {
+        assert!(words.len() >= 7 * used as usize);
+        // It reads slots in use, and writes at most so many words.
+        unsafe { plain_walk(words.as_ptr(), used, root, next, list.len() as u32, list.as_mut_ptr()) }
+    }
+}
+
+/// The same walk in plain C, with the same tests of each edge, against `traverse`.
+fn plainly(s: &Sides, rounds: usize) -> (f64, f64) {
+    let theirs = || {
+        black_box(s.root.traverse(&s.arena).fold(0u32, |sum, edge| sum.wrapping_add(word(edge))));
+    };
+    let mut list = [0; 256];
+    let mut plain = || {
+        let (mut next, mut sum) = (s.root.number(), 0u32);
+        while next != 0 {
+            let n = plain::walk(&s.words, s.header[0], s.root.number(), &mut next, &mut list);
+            sum = list[..n as usize].iter().fold(sum, |sum, &edge| sum.wrapping_add(edge));
+        }
+        black_box(sum)
+    };
+    assert_eq!(
+        plain(),
+        s.root.traverse(&s.arena).fold(0u32, |sum, edge| sum.wrapping_add(word(edge))),
+        "the walk in plain C does something else"
+    );
+    interleaved(
+        rounds,
+        || time(s.calls, theirs),
+        || {
+            time(s.calls, || {
+                plain();
+            })
+        },
+    )
 }
 
 /// A list from the root, or from the last node in preorder for those that go up: with its examination, against the crate's iterator, and
@@ -174,12 +220,11 @@ const MEASURED: [(usize, &str); 6] =
 pub fn tables(rounds: usize, aims: &mut Aims) {
     println!("\n| what | of | indextree or copy, µs | library, µs | ratio |");
     println!("|---|---|---|---|---|");
-    let mut shares = Vec::new();
     for slots in [2_048, 65_535] {
         for mut s in sides(slots) {
-            shares.extend(cache::share().map(|share| format!("{}: {share}", s.name)));
             let walked = walk(&s, rounds);
             row("walk, 256 edges at a time, against `traverse`", &s.name, walked);
+            row("the same walk in plain C, against `traverse`", &s.name, plainly(&s, rounds));
             aims.add(&format!("stepped walk, {slots} slots"), 0.8, walked.1 / walked.0);
             for (kind, name) in MEASURED {
                 if kind < 3 {
@@ -198,11 +243,5 @@ pub fn tables(rounds: usize, aims: &mut Aims) {
                 image(&s, slots, rounds, aims);
             }
         }
-    }
-    if !shares.is_empty() {
-        println!("\nThe first-level data cache, before each walk:");
-    }
-    for share in shares {
-        println!("- {share}");
     }
 }

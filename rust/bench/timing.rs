@@ -1,5 +1,7 @@
 //! Times of this thread on the processor, and medians of interleaved rounds.
 
+use crate::cache;
+
 #[repr(C)]
 struct Timespec {
     seconds: i64,
@@ -44,12 +46,14 @@ pub fn median(times: &mut [f64]) -> f64 {
 
 /// Medians of both sides, a round of one after a round of the other.
 pub fn interleaved(rounds: usize, mut theirs: impl FnMut() -> f64, mut ours: impl FnMut() -> f64) -> (f64, f64) {
-    let (mut a, mut b) = (Vec::new(), Vec::new());
-    for _ in 0..rounds {
-        a.push(theirs());
-        b.push(ours());
-    }
-    (median(&mut a), median(&mut b))
+    cache::alone(|| {
+        let (mut a, mut b) = (Vec::new(), Vec::new());
+        for _ in 0..rounds {
+            a.push(theirs());
+            b.push(ours());
+        }
+        (median(&mut a), median(&mut b))
+    })
 }
 
 /// Microseconds, with as many digits as say something.
