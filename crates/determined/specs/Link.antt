@@ -2,6 +2,8 @@
 -- Excluded: a surgery that is free to write another word; a stamp stated up to its sign.
 use mathlib.Core.Path.{sym, _∙_}
 use Rattle.determined.specs.Outcome.{OneOutcome, one-value}
+use Rattle.link.proofs.choice.pick
+use Rattle.link.proofs.choice.choose
 use Rattle.link.proofs.siblings_range.SiblingsRange.detach_from_siblings
 use Rattle.link.proofs.id.Stamp.fresh
 use Rattle.link.proofs.id.Stamp.removed
@@ -25,6 +27,12 @@ use Rattle.link.proofs.words.get_word
 use Rattle.link.proofs.words.set_word
 use Rattle.link.proofs.words.link_of
 use Rattle.link.proofs.words.set_link
+
+pub one-pick : OneOutcome pick.Kinds.ps pick.Kinds.r pick.Reads.Learnt
+one-pick _ _ _ _ = one-value (λ t. (t, (tt, (tt, (tt, tt)))))
+
+pub one-choose : OneOutcome choose.Kinds.ps choose.Kinds.r choose.Reads.Learnt
+one-choose _ _ _ _ = one-value (λ t. (t, (tt, (tt, (tt, tt)))))
 
 pub one-fresh : OneOutcome fresh.Kinds.ps fresh.Kinds.r fresh.Reads.Learnt
 one-fresh _ _ _ _ = one-value (λ t. (record { 0 = t }, tt))

@@ -1,11 +1,11 @@
 // The first pass: each live slot's words are read once, and each neighbour is visited once.
 // All functions ask only that the slots in use lie within the memory.
+use link::choice::pick;
 use link::id::slot_of;
 use link::id::stamp_of;
 use link::words::Slot;
 use link::words::get_word;
 ghost use mathlib.Core.Path.{_≡_};
-ghost use mathlib.Core.Bool.{cond};
 ghost use Prim.Native.Nat.{_+_, _*_, _<_, _≤_};
 ghost use lib.ListN.{length};
 ghost use Rattle.link.specs.Words.{width};
@@ -71,16 +71,6 @@ pub fn next_ok(words: &[u32], used: u32, x: u32, parent: u32, next: u32) -> bool
         return true;
     }
     has(words, used, next, Slot::PREVIOUS, x, Slot::PARENT, parent)
-}
-
-// One of two numbers by value: whether a node has a sibling before it cannot be predicted.
-fn pick(first: bool, a: u32, b: u32) -> u32
-    ensures { λ r. ⌜ r ≡ cond first a b ⌝ }
-{
-    if first {
-        return a;
-    }
-    b
 }
 
 // Previous and parent. Without a parent: nothing before x, or a sibling that knows x as its next. Else the one that leads to x, which is

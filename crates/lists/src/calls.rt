@@ -1,4 +1,5 @@
-// Document 01's lists as calls on any memory, each over one guard: FRAME, SCRATCH, INVALID, then REMOVED, then ROOM.
+// Document 01's lists as calls on any memory, each over one guard: FRAME, SCRATCH, INVALID, then REMOVED, then ROOM. Descendants stand in the
+// crate `preorder`, over the same definition.
 use crate::levels::list_levels;
 use crate::lists::count_nodes;
 use crate::lists::list_nodes;

@@ -74,7 +74,7 @@ module _ (m : List ℕ) (used : ℕ) (s₀ : List ℕ) (zero : zeroed (2 * used)
     pop-laid (2 * used - 1) (drop (2 * used) s₀) s (tops ts) place (top t) l,
   )
 
-module _ (m : List ℕ) (used : ℕ) (whole s₀ list₀ s list : List ℕ) (place x at : ℕ) (T : Turning m used whole s₀ list₀ s list place x at) where
+module _ {m : List ℕ} {used : ℕ} {whole s₀ list₀ s list : List ℕ} {place x at : ℕ} (T : Turning m used whole s₀ list₀ s list place x at) where
   -- The end: no node is left, scratch is as it was, and all is written.
   pub ends : x ≡ 0 → (s ≡ s₀) × ((list, at) ≡ storedAt whole list₀ 0)
   ends z = by (T .trees) (T .pending) (T .held) (T .stored)
@@ -166,5 +166,4 @@ module _ (m : List ℕ) (h : Header) (sound : Sound m h) (root : ℕ) (f : Found
 
   pub finishes : {s list : List ℕ} {place x at : ℕ} → Turning m (h .used) (ordered m (h .used) Descendants root) s₀ (set list₀ 0 root) s list place x at → x ≡ 0
       → (s ≡ s₀) × ((list, at) ≡ storedAt (ordered m (h .used) Descendants root) list₀ 0)
-  finishes {s} {list} {place} {x} {at} T z =
-      let e = ends m (h .used) (ordered m (h .used) Descendants root) s₀ (set list₀ 0 root) s list place x at T z in (e .0, e .1 ∙ stored-again)
+  finishes T z = let e = ends T z in (e .0, e .1 ∙ stored-again)

@@ -1,10 +1,12 @@
 // Preorder with a stack of the siblings still to be visited. It grows downwards in scratch, whose words are zero before and after.
 // Whether a node has a next sibling is a matter of values, not of branches: in a tree there is little to predict.
+use link::choice::choose;
+use link::choice::pick;
 use link::header::Header;
 use link::words::Slot;
 use link::words::link_of;
 ghost use mathlib.Core.Path.{_≡_};
-ghost use mathlib.Core.Bool.{true, cond};
+ghost use mathlib.Core.Bool.{true};
 ghost use Prim.Native.Nat.{_*_, _<_, _≤_};
 ghost use lib.ListN.{length};
 ghost use Rattle.link.specs.Found.{foundB};
@@ -19,24 +21,6 @@ ghost use Rattle.preorder.specs.Stack.{turned};
 pub struct Turned {
     pub node: u32,
     pub top: usize,
-}
-
-fn pick(first: bool, a: u32, b: u32) -> u32
-    ensures { λ r. ⌜ r ≡ cond first a b ⌝ }
-{
-    if first {
-        return a;
-    }
-    b
-}
-
-fn choose(first: bool, a: usize, b: usize) -> usize
-    ensures { λ r. ⌜ r ≡ cond first a b ⌝ }
-{
-    if first {
-        return a;
-    }
-    b
 }
 
 // What follows a node: its first child, and the next sibling waits on the stack; without a child the next sibling, or what waits there.

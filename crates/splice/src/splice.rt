@@ -1,24 +1,15 @@
 // A node taken out of its chain, and nodes tied into one. All that is asked for is that the nodes named lie within the memory.
 // Which word is written is chosen by values, not by branches: in a tree there is nothing to predict.
+use link::choice::choose;
 use link::id::slot_of;
 use link::words::Slot;
 use link::words::get_word;
 use link::words::set_word;
 ghost use mathlib.Core.Path.{_≡_};
-ghost use mathlib.Core.Bool.{cond};
 ghost use Prim.Native.Nat.{_+_, _*_, _<_};
 ghost use Rattle.link.specs.Ids.{slotOf};
 ghost use Rattle.link.specs.Words.{width, PARENT, PREVIOUS, NEXT, link};
 ghost use Rattle.splice.specs.Splice.{Within, NoneOrWithin, led, takenOut, tiedIn, putIn};
-
-fn choose(first: bool, a: usize, b: usize) -> usize
-    ensures { λ r. ⌜ r ≡ cond first a b ⌝ }
-{
-    if first {
-        return a;
-    }
-    b
-}
 
 // Where word k of an identifier's slot lies, counted from a slot before the first.
 fn place_of(id: u32, k: u32) -> usize

@@ -1,23 +1,14 @@
 // Where a node is put, by the target's links, once for the four places and chosen by values.
+use link::choice::pick;
 use link::id::slot_of;
 use link::words::Slot;
 use link::words::get_word;
 use moves::place::Place;
 use moves::place::Spot;
 ghost use mathlib.Core.Path.{_≡_};
-ghost use mathlib.Core.Bool.{cond};
 ghost use Rattle.link.specs.Words.{PARENT, link};
 ghost use Rattle.moves.specs.Places.{spot};
 ghost use Rattle.splice.specs.Splice.{Within, besideWord, isUnder, isBehind};
-
-fn pick(first: bool, a: u32, b: u32) -> u32
-    ensures { λ r. ⌜ r ≡ cond first a b ⌝ }
-{
-    if first {
-        return a;
-    }
-    b
-}
 
 // The word of the target that names the node's other neighbour.
 fn beside_word(place: Place) -> u32

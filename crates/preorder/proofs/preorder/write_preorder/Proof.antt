@@ -49,8 +49,7 @@ loop-holds c =
 mul-list : tie.Need-mul-list Inv-loop μ-loop
 mul-list c =
     let a = c .before .before .before .before .before .before .args in let p = c .before .before .before .before .before .before .pre in let at = c .before .loop in
-    let t = turns (now (a .words)) (a .h .used) (ordered (now (a .words)) (a .h .used) Descendants (a .root)) (now (a .scratch)) (set (now (a .list)) 0 (a .root)) (at .scratch) (at .list) (at .top) (at .x) (at .at)
-    (at .inv .2) (p .2) (c .loop-test .taken) in
+    let t = turns (at .inv .2) (p .2) (c .loop-test .taken) in
     let r = t .room in let l = at .inv .0 in let q = length-set (now (a .list)) 0 (a .root) in
     let b : at .at < length (at .list) = omega arith in
     search needs
@@ -58,42 +57,35 @@ mul-list c =
 slice-write-list-2 : tie.Need-slice-write-list-2 Inv-loop μ-loop
 slice-write-list-2 c =
     let a = c .before .before .before .before .before .before .args in let p = c .before .before .before .before .before .before .pre in let at = c .before .loop in
-    let t = turns (now (a .words)) (a .h .used) (ordered (now (a .words)) (a .h .used) Descendants (a .root)) (now (a .scratch)) (set (now (a .list)) 0 (a .root)) (at .scratch) (at .list) (at .top) (at .x) (at .at)
-    (at .inv .2) (p .2) (c .loop-test .taken) in
+    let t = turns (at .inv .2) (p .2) (c .loop-test .taken) in
     let r = t .room in let l = at .inv .0 in let q = length-set (now (a .list)) 0 (a .root) in
     omega arith
 
 add-at : tie.Need-add-at Inv-loop μ-loop
 add-at c =
     let a = c .before .before .before .before .before .before .args in let p = c .before .before .before .before .before .before .pre in let at = c .before .loop in
-    let t = turns (now (a .words)) (a .h .used) (ordered (now (a .words)) (a .h .used) Descendants (a .root)) (now (a .scratch)) (set (now (a .list)) 0 (a .root)) (at .scratch) (at .list) (at .top) (at .x) (at .at)
-    (at .inv .2) (p .2) (c .loop-test .taken) in
+    let t = turns (at .inv .2) (p .2) (c .loop-test .taken) in
     let r = t .room in let l = at .inv .0 in let q = length-set (now (a .list)) 0 (a .root) in
     let b : at .at < length (at .list) = omega arith in
     search needs
 
 turn-requires : tie.Need-turn-requires Inv-loop μ-loop
 turn-requires c κs =
-    let a = c .before .before .before .before .before .before .before .args in let p = c .before .before .before .before .before .before .before .pre in let at = c .before .before .loop in
-    let t = turns (now (a .words)) (a .h .used) (ordered (now (a .words)) (a .h .used) Descendants (a .root)) (now (a .scratch)) (set (now (a .list)) 0 (a .root)) (at .scratch) (at .list) (at .top) (at .x) (at .at)
-    (at .inv .2) (p .2) (c .before .loop-test .taken) in
-    let r = t .room in let l = at .inv .0 in let q = length-set (now (a .list)) 0 (a .root) in
+    let p = c .before .before .before .before .before .before .before .pre in let at = c .before .before .loop in
+    let t = turns (at .inv .2) (p .2) (c .before .loop-test .taken) in
     (t .above, t .inside)
 
 loop-less : tie.Need-loop-less Inv-loop μ-loop
 loop-less c =
     let a = c .before .before .before .before .before .before .before .before .before .before .args in let p = c .before .before .before .before .before .before .before .before .before .before .pre in let at = c .before .before .before .before .before .loop in
-    let t = turns (now (a .words)) (a .h .used) (ordered (now (a .words)) (a .h .used) Descendants (a .root)) (now (a .scratch)) (set (now (a .list)) 0 (a .root)) (at .scratch) (at .list) (at .top) (at .x) (at .at)
-    (at .inv .2) (p .2) (c .before .before .before .before .loop-test .taken) in
+    let t = turns (at .inv .2) (p .2) (c .before .before .before .before .loop-test .taken) in
     let r = t .room in let l = at .inv .0 in let q = length-set (now (a .list)) 0 (a .root) in
     omega arith
 
 loop-again : tie.Need-loop-again Inv-loop μ-loop
 loop-again c =
-    let a = c .before .before .before .before .before .before .before .before .before .before .args in let p = c .before .before .before .before .before .before .before .before .before .before .pre in let at = c .before .before .before .before .before .loop in
-    let t = turns (now (a .words)) (a .h .used) (ordered (now (a .words)) (a .h .used) Descendants (a .root)) (now (a .scratch)) (set (now (a .list)) 0 (a .root)) (at .scratch) (at .list) (at .top) (at .x) (at .at)
-    (at .inv .2) (p .2) (c .before .before .before .before .loop-test .taken) in
-    let r = t .room in let l = at .inv .0 in let q = length-set (now (a .list)) 0 (a .root) in
+    let p = c .before .before .before .before .before .before .before .before .before .before .pre in let at = c .before .before .before .before .before .loop in
+    let t = turns (at .inv .2) (p .2) (c .before .before .before .before .loop-test .taken) in
     (search needs, search needs, t .on (c .before .before .turn .ensures))
 
 same-length : tie.Need-same-length Inv-loop μ-loop
