@@ -1,4 +1,5 @@
-// One of two numbers, by value: the compiler makes no branch of it. For what cannot be predicted, as whether a node has a sibling.
+// One of two numbers, by value: where both are at hand the compiler needs no branch. For what cannot be predicted, as whether a node has
+// a sibling.
 ghost use mathlib.Core.Path.{_≡_};
 ghost use mathlib.Core.Bool.{cond};
 

@@ -4,7 +4,6 @@ use mathlib.Core.Logic.{_≢_}
 use mathlib.Core.Bool.{Bool, true, false, cond}
 use mathlib.Core.List.{List, [], _∷_, _++_}
 use Prim.Native.Nat.{_-_, ℕ, zero, suc, _+_, _*_, _<_, _≤_}
-use native.Mathlib.Numerals.{sub-one}
 use native.Mathlib.Omega.{arith}
 use lib.Dec.{eqb}
 use lib.ListN.{length, set, getD, replicate, drop, length-append, length-replicate}
@@ -16,7 +15,6 @@ use Rattle.examine.specs.Scratch.{zeroed}
 use Rattle.sound.specs.Guard.{scratchAfter}
 use Rattle.sound.specs.GuardLaws.{scratch-fits}
 use Rattle.preorder.specs.Stack.{turnedTo, wentDown, wentOn, turned}
-use Rattle.preorder.specs.declared.preorder.Turned.{Turned}
 
 -- Zeros, then the stack with its top first, down to the bottom, then a zero and what is not the stack's concern.
 pub record Laid (bottom : ℕ) (rest s : List ℕ) (top : ℕ) (stack : List ℕ) : Type 0 where

@@ -1,18 +1,17 @@
 -- The loop as it goes on: its node is the top of the first tree that is still to be written, the tops of the others wait on the stack,
 -- and the list ends with their nodes. From the tree of a found node and the laws of the stack.
 use mathlib.Core.Path.{_≡_, refl, sym, ap, _∙_, subst}
-use mathlib.Core.Logic.{_≢_, inl, inr}
+use mathlib.Core.Logic.{_≢_, inr}
 use mathlib.Core.Bool.{cond}
 use mathlib.Core.List.{List, [], _∷_, _++_, append-assoc}
-use Prim.Native.Nat.{_-_, ℕ, suc, _+_, _*_, _<_, _≤_}
+use Prim.Native.Nat.{_-_, ℕ, suc, _+_, _*_, _<_}
 use native.Mathlib.Omega.{arith}
 use lib.Dec.{eqb}
-use lib.ListN.{length, set, getD, drop}
+use lib.ListN.{length, set, drop}
 use lib.Seq.{sets, set-set, set-getD}
 use Rattle.link.specs.Words.{NEXT, FIRST, link}
 use Rattle.link.specs.Found.{Found}
 use Rattle.link.specs.declared.header.Header.{Header}
-use Rattle.rules.specs.Lists.{All}
 use Rattle.rules.specs.Links.{view}
 use Rattle.rules.specs.Sound.{Sound}
 use Rattle.rules.specs.Tree.{Tree, none, node, top, pre, Hang}

@@ -1,5 +1,5 @@
 -- The contract of `batch::perform::perform_ready`.
-use mathlib.Core.Path.{_≡_, refl, ap, _∙_, sym, subst}
+use mathlib.Core.Path.{_≡_, refl, _∙_}
 use Prim.Native.Nat.{ℕ, _-_, _*_}
 use lib.ListN.{length, take}
 use borrow.Author.Needs.{needs}
@@ -7,10 +7,9 @@ use denote.Ref.{now}
 use Rattle.command.specs.Codes.{argumentTable, limitTable}
 use Rattle.command.specs.Kinds.{kindTable, detailTable}
 use Rattle.command.specs.Known.{ready}
-use Rattle.command.specs.declared.known.Known.{Known}
 use Rattle.batch.specs.Trace.{size}
 use Rattle.batch.specs.Batch.{performed}
-use Rattle.batch.specs.Performing.{before, Performs}
+use Rattle.batch.specs.Performing.{before}
 use Rattle.batch.specs.PerformLaws.{Performing, performing-from, performing-room, performing-more, performing-end, performs-known}
 use Rattle.batch.proofs.perform.perform_ready.Statement.{statement}
 use Rattle.batch.proofs.perform.perform_ready.Tie as tie
