@@ -1,5 +1,8 @@
 // Creation, the free list, single reads, set, clear and the census, over lent words and a header by value.
 // Each function equals a definition of specs/; what is said of any memory asks for nothing.
+
+#![tactic(auto)]
+
 pub mod arena;
 pub mod census;
 pub mod node;

@@ -1,5 +1,8 @@
 // A capacity of one, run to its end: the one slot is handed out 32,768 times, and its last removal spends it.
 // Nothing is decided here: every line is what a public call answers.
+
+#![tactic(auto)]
+
 use arena::arena::new_node;
 use link::header::Header;
 use removal::removal::checked_remove;

@@ -1,5 +1,8 @@
 // Loads good images, and copies of them with a byte changed or of another length, and writes the numbers answered;
 // for a changed byte a letter each, 0 to 9, then A for 10 and so on. What it should write was made by tools/damaged, which reads document 01 by itself.
+
+#![tactic(auto)]
+
 mod images;
 
 ghost use Rattle.std.specs.Prelude.{◌<◌, ◌≤◌, length};

@@ -1,1 +1,3 @@
 // Theory alone: see specs/.
+
+#![tactic(auto)]

@@ -1,1 +1,3 @@
 // Theorems only: see specs.
+
+#![tactic(auto)]

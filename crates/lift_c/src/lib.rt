@@ -1,5 +1,8 @@
 // The face for C and Rust: each public call under a name of its own, with the header as three words and the result behind a pointer.
 // Nothing is decided here: a function unpacks, calls and packs. One module for each group of calls; include/lift.h declares them.
+
+#![tactic(auto)]
+
 pub mod batching;
 pub mod comparing;
 pub mod counting;

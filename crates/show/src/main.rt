@@ -1,5 +1,8 @@
 // Shows stamps and links at work: a slot handed out, removed and handed out again; two calls put under a car.
 // Nothing is decided here: every line is what the crate `link` answers.
+
+#![tactic(auto)]
+
 use link::id::{Stamp, found, id_of};
 use link::relations::insert_last_unchecked;
 use link::words::{Slot, link_of, set_link};

@@ -1,4 +1,7 @@
 // The command program on empty input, which writes nothing.
+
+#![tactic(auto)]
+
 fn main() {
     console::serve::serve();
 }

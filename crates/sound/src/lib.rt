@@ -1,4 +1,7 @@
 // The validator, and the guard that every call that needs ready memory goes through. Neither asks anything of its caller.
+
+#![tactic(auto)]
+
 ghost use Rattle.std.specs.Prelude.{◌≡◌, ◌↔◌, ◌*◌, ◌≤◌, length};
 ghost use Rattle.link.specs.Words.{capacity_of};
 ghost use Rattle.rules.specs.Sound.{Sound, Ready};

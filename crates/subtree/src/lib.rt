@@ -1,4 +1,7 @@
 // Two subtrees compared, of one memory or of two: equal when they have the same shape and the same numbers. Words are only read.
+
+#![tactic(auto)]
+
 ghost use Rattle.std.specs.Prelude.{◌≡◌, cond, ◌+◌, ◌*◌, ◌≤◌};
 ghost use Rattle.walk.specs.declared.edge.Edge.TheVariants.{Start};
 ghost use Rattle.subtree.specs.Compare.{alike, together, compare_step, compare_run, compared, subtrees_compared};

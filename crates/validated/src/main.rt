@@ -3,6 +3,9 @@
 // first free, last free, the number of scratch words lent, and the words lent.
 // An answer line has the validator's number and result, what became of the scratch, the guard's number, and what became of the scratch
 // then: `kept` where every word is as before, `zero` where the first 2 × used words are zero and the others as before, else `other`.
+
+#![tactic(auto)]
+
 mod text;
 
 ghost use Rattle.std.specs.Prelude.{◌<◌, ◌≤◌, length};

@@ -1,5 +1,8 @@
 // The walk in the form that document 01 names: a struct that holds the memory it reads, the root and the next edge.
 // The first two functions make and step it; the third has plain parameters and serves every other caller.
+
+#![tactic(auto)]
+
 ghost use Rattle.std.specs.Prelude.{◌≡◌};
 ghost use Rattle.walk.specs.Edges.{step_from};
 
