@@ -1,14 +1,14 @@
 -- Stamps step by one at each hand-out and never come again; a stamp and its 16 bits determine each other (P5 follows).
 use Rattle.std.specs.Prelude.{◌≡◌, refl, Bool, true, false, ◌⊎◌, ◌-◌, ℕ, zero, suc, ◌<◌, eqb, ltb, leb, ℤ, pos, negsuc}
 use Rattle.std.proofs.Common.{sym, ap, ◌∙◌, inl, inr, arith, le-leb, leb-true, leb-false, le-ltb, lt-ltb, eq-eqb, ne_eqb, eqb-true}
-use Rattle.std.proofs.Math.IntN.{-ℤ_one}
+use Rattle.std.proofs.Math.IntN as ints
 use Rattle.std.proofs.lemmas.Bool.{lt-leb, eqb-false}
 use Rattle.link.specs.Stamps.{Live, Removed, Reusable, pick, removed_stamp, reused_stamp, is_removed, is_spent, handed_out, bits_of, stamp_of_bits, removed_bits, reused_bits}
 
 -- Removing n gives −n − 1, which is how the integers of the library are made.
 pub removed-negsuc : (n : ℕ) → removed_stamp (pos n) ≡ negsuc n
 removed-negsuc zero = refl
-removed-negsuc (suc n) = -ℤ_one (negsuc n)
+removed-negsuc (suc n) = ints.-ℤ_one (negsuc n)
 
 -- Removed, then reused: one more.
 pub removed-reused : (n : ℕ) → reused_stamp (removed_stamp (pos n)) ≡ pos (suc n)
@@ -27,9 +27,11 @@ never-again i j e = let q : pos i ≡ pos j = sym (handed_out_lem i) ∙ e ∙ h
 -- The steps on the bits.
 pub removed_bits_lem : (z : ℤ) → Live z → bits_of (removed_stamp z) ≡ removed_bits (bits_of z)
 removed_bits_lem (pos n) h = ap bits_of (removed-negsuc n)
+removed_bits_lem (negsuc _) h = elim h [ ]
 
 pub reused_bits_lem : (z : ℤ) → Reusable z → bits_of (reused_stamp z) ≡ reused_bits (bits_of z)
 reused_bits_lem (negsuc n) h = omega arith
+reused_bits_lem (pos _) h = elim h [ ]
 
 -- The bits and the number determine each other.
 pub stamp-bits : (b : ℕ) → b < 65536 → bits_of (stamp_of_bits b) ≡ b
@@ -44,6 +46,8 @@ bits-stamp (pos n) (inl h) = ap (λ (t : Bool). pick t (pos n) (negsuc (65535 - 
 bits-stamp (negsuc n) (inr h) =
     ap (λ (t : Bool). pick t (pos (65535 - n)) (negsuc (65535 - (65535 - n)))) (lt-leb (65535 - n) 32767 (omega arith))
     ∙ ap negsuc (omega arith)
+bits-stamp (negsuc n) (inl h) = elim h [ ]
+bits-stamp (pos n) (inr h) = elim h [ ]
 
 -- Two tests of equality that agree.
 pub eqb_same : (a b c d : ℕ) → (a ≡ b → c ≡ d) → (c ≡ d → a ≡ b) → eqb a b ≡ eqb c d
