@@ -165,6 +165,7 @@ module _ (v : View) (live : ℕ → Type 0) (N : Nodes live) (S : SoundLinks v l
     where
       head_live : (n a : ℕ) → All live (path (v nxt) n a) → In y (path (v nxt) n a) → live a
       head_live (suc n) a w u = w.0
+      head_live zero a w u = elim u [ ]
 
   placed : (n y : ℕ) → live y → Deep v n y → In y (built (home v live N S y))
   unfolding built

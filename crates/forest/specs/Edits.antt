@@ -46,6 +46,7 @@ module _ (live : ℕ → Type 0) (F : Forest) (M : Members live F) (k : Key) (ls
 
       alone : (y : ℕ) → In y (x ∷ []) → live y × (roots j ≡ home y) × Unit {0}
       alone y (inl q) = rw q ((M.member k x was).0, sym (if_pos (ℕ_discrete x x) refl (roots j) (M.home x)), tt)
+      alone y (inr x'') = elim x'' [ ]
 
       keep : (y : ℕ) (k' : Key) → In y (F k') → y ≢ x → In y (detached F k ls x rs j k')
       keep y = detached_elim (λ z xs. In y (F z) → y ≢ x → In y xs) F k ls rs x j

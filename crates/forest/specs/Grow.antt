@@ -127,6 +127,7 @@ module _ (v w : View) (live more : ℕ → Type 0) (x : ℕ) (old : (y : ℕ) �
 
       one : (y : ℕ) → In y (x ∷ []) → more y × (roots j ≡ home y) × Unit {0}
       one y (inl e) = rw e (is, sym (if_pos (ℕ_discrete x x) refl (roots j) (M.home x)), tt)
+      one y (inr x'') = elim x'' [ ]
 
       stays : (y : ℕ) (k : Key) → In y (F k) → In y (put F (roots j) (x ∷ []) k)
       stays y = put_elim (λ z xs. In y (F z) → In y xs) F (roots j) (x ∷ []) (λ t. absurd (rw free at t)) (λ _ _ t. t)

@@ -53,6 +53,7 @@ all_in_at f (x ∷ xs) o y (inl e) = go (all_in_at (at f x o) xs o y) (in-dec y 
     go : (In y xs → all_at (at f x o) xs o y ≡ o) → Off y xs ⊎ In y xs → all_at (at f x o) xs o y ≡ o
     go ih (inl k) = all_off (at f x o) xs o y k ∙ ap (at f x o) e ∙ at_same f x o
     go ih (inr t) = ih t
+all_in_at f mathlib.Core.List.[] o y x' = elim x' [ ]
 
 -- the children ms of x get x's parent instead
 pub ends-hoist : (f : ℕ → ℕ) (x : ℕ) (ms : List ℕ) → x ≢ 0 → ((y : ℕ) → Off y ms ⊎ (In y ms × (f y ≡ x))) → (b n : ℕ) → n ≤ b → (y : ℕ) → EndsIn f n y

@@ -25,6 +25,7 @@ pred-along v o b (x ∷ xs) e s z h y t =
     go : (y ≡ x) ⊎ In y xs → Ends (pred v) x → (Ends (pred v) (or_else x o) → (w : ℕ) → In w xs → Ends (pred v) w) → Ends (pred v) y
     go (inl q) here ih = rw q here
     go (inr u) here ih = ih (rw (or_left x o (λ r. z.0 (sym r))) here) y u
+pred-along v o b [] e s z h y t = elim t [ ]
 
 module _ (v : View) (live : ℕ → Type 0) (F : Forest) (H : Holds v live F) where
   pred-ends : Acyclic v live → (y : ℕ) → live y → Ends (pred v) y

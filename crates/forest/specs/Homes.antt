@@ -92,3 +92,5 @@ module _ (v : View) (live : ℕ → Type 0) (N : Nodes live) (S : SoundLinks v l
     where
       go : (m : ℕ) → All live (path (v nxt) m (v nxt x)) → In y (path (v nxt) m (v nxt x)) → home (v nxt x) ≡ home x
       go (suc m) w' t' = home-next x w.0 (N.some _ w'.0)
+      go zero w' t' = elim t' [ ]
+  home-path zero x y w x4 = elim x4 [ ]

@@ -18,6 +18,7 @@ last-append b (a ∷ ls) rs = last-append a ls rs
 pub in_left : (y : ℕ) (ls rs : List ℕ) → In y ls → In y (ls ++ rs)
 in_left y (a ∷ ls) rs (inl e) = inl e
 in_left y (a ∷ ls) rs (inr h) = inr (in_left y ls rs h)
+in_left y [] rs x' = elim x' [ ]
 
 pub in_right : (y : ℕ) (ls rs : List ℕ) → In y rs → In y (ls ++ rs)
 in_right y [] rs h = h
@@ -57,6 +58,7 @@ nodup-right (a ∷ ls) rs h = nodup-right ls rs h.1
 pub off-not_in : (y : ℕ) (xs : List ℕ) → Off y xs → In y xs → ⊥
 off-not_in y (x ∷ xs) h (inl e) = h.0 e
 off-not_in y (x ∷ xs) h (inr t) = off-not_in y xs h.1 t
+off-not_in y [] h x'' = elim x'' [ ]
 
 pub not_in_off : (y : ℕ) (xs : List ℕ) → (In y xs → ⊥) → Off y xs
 not_in_off y [] h = tt
@@ -79,6 +81,7 @@ in-dec y (x ∷ xs) = go (ℕ_discrete y x) (in-dec y xs)
 pub in_split : (y : ℕ) (xs : List ℕ) → In y xs → (ls : List ℕ) × (rs : List ℕ) × (xs ≡ ls ++ y ∷ rs)
 in_split y (x ∷ xs) (inl e) = ([], xs, ap (λ (z : ℕ). z ∷ xs) (sym e))
 in_split y (x ∷ xs) (inr t) = let (ls, rs, e) = in_split y xs t in (x ∷ ls, rs, ap (λ (zs : List ℕ). x ∷ zs) e)
+in_split y [] x' = elim x' [ ]
 
 pub last_in : (b : ℕ) (xs : List ℕ) → (last_or b xs ≡ b) ⊎ In (last_or b xs) xs
 last_in b [] = inl refl
@@ -110,6 +113,7 @@ all_of P (x ∷ xs) h = (h x (inl refl), all_of P xs (λ z t. h z (inr t)))
 pub all_in : (P : ℕ → Type 0) (xs : List ℕ) → All P xs → (y : ℕ) → In y xs → P y
 all_in P (x ∷ xs) h y (inl e) = subst P (sym e) h.0
 all_in P (x ∷ xs) h y (inr t) = all_in P xs h.1 y t
+all_in P [] h y x'' = elim x'' [ ]
 
 -- ---- one member out
 

@@ -23,6 +23,7 @@ module _ (f : ℕ → ℕ) where
   pub path-closed : (n a x : ℕ) → EndsIn f n a → In x (path f n a) → f x ≢ 0 → In (f x) (path f n a)
   path-closed (suc n) a x e (inl q) h = inr (subst (λ (z : ℕ). In z (path f n (f a))) (ap f (sym q)) (head_in-path n (f a) (λ z. h (ap f q ∙ z)) e.1))
   path-closed (suc n) a x e (inr t) h = inr (path-closed n (f a) x e.1 t h)
+  path-closed zero a x e x5 h = elim x5 [ ]
 
   pub path-last : (n a y b : ℕ) → EndsIn f n a → In y (path f n a) → f y ≡ 0 → last_or b (path f n a) ≡ y
   path-last (suc n) a y b e (inr t) h = path-last n (f a) y a e.1 t h
@@ -31,6 +32,7 @@ module _ (f : ℕ → ℕ) where
       at_head : (m : ℕ) → EndsIn f m (f a) → last_or a (path f m (f a)) ≡ y
       at_head zero c = sym q
       at_head (suc m) c = absurd (c.0 (ap f (sym q) ∙ h))
+  path-last zero a y b e x3 h = elim x3 [ ]
 
 -- how many predecessors a node has, itself with them
 abbrev pub Deep : View → ℕ → ℕ → Type 0

@@ -25,6 +25,7 @@ spine v o b (x ∷ xs) s z p none h e y i = absurd (z.0 (sym e))
 spine v o b (x ∷ xs) s z p (node a k n) h e y (inl q) = inl (q ∙ e)
 spine v o b (x ∷ xs) s z p (node a k n) h e y (inr i) =
     inr (in_right y (pre k) (pre n) (spine v o x xs s.3 z.1 p n h.5 (sym s.2 ∙ ap (v nxt) e ∙ h.2) y i))
+spine v o b [] s z p t h e y i = elim i [ ]
 
 -- the tree below a node of the tree
 record Part (v : View) (t : Tree) (p : ℕ) : Type 0 where
@@ -45,6 +46,7 @@ part v o (node a k n) h p (inr i) = go (in_cases p (pre k) (pre n) i) (part v a 
     go : In p (pre k) ⊎ In p (pre n) → (In p (pre k) → Part v k p) → (In p (pre n) → Part v n p) → Part v (node a k n) p
     go (inl w) f g = let r = f w in record { tree = r.tree; hangs = r.hangs; tops = r.tops; inner = λ y i. inr (in_left y (pre k) (pre n) (r.inner y i)) }
     go (inr w) f g = let r = g w in record { tree = r.tree; hangs = r.hangs; tops = r.tops; inner = λ y i. inr (in_right y (pre k) (pre n) (r.inner y i)) }
+part v o none h p x'' = elim x'' [ ]
 
 -- a node of the tree has its parent in the tree, or o
 parent_in : (v : View) (o : ℕ) (t : Tree) → Hang v o t → (y : ℕ) → In y (pre t) → In (v par y) (o ∷ pre t)
@@ -63,6 +65,7 @@ parent_in v o (node a k n) h y (inr i) = go (in_cases y (pre k) (pre n) i) (pare
         beside : In (v par y) (o ∷ pre n) → In (v par y) (o ∷ pre (node a k n))
         beside (inl q) = inl q
         beside (inr u) = inr (inr (in_right _ (pre k) (pre n) u))
+parent_in v o none h y x'' = elim x'' [ ]
 
 module _ (v : View) (live : ℕ → Type 0) (F : Forest) (H : Holds v live F) (x : ℕ) (lx : live x) (t : Tree) (et : v fst x ≡ top t) (ht : Hang v x t) where
   abbrev M : Members live F
@@ -92,6 +95,7 @@ module _ (v : View) (live : ℕ → Type 0) (F : Forest) (H : Holds v live F) (x
           two : In z (pre k) ⊎ In z (pre n) → (In z (pre k) → z ≢ 0) → (In z (pre n) → z ≢ 0) → ⊥
           two (inl c) f g = f c e
           two (inr c) f g = g c e
+      some_in z none o h x4 e = elim x4 [ ]
 
       some : In (v par y) (x ∷ pre t) → v par y ≢ 0
       some (inl q) e = M.some x lx (sym q ∙ e)
@@ -118,6 +122,7 @@ module _ (v : View) (live : ℕ → Type 0) (F : Forest) (H : Holds v live F) (x
           where
             only : In y (x ∷ []) → In y (x ∷ pre t)
             only (inl q) = inl q
+            only (inr x'') = elim x'' [ ]
 
         closed : (p y : ℕ) → In p (x ∷ pre t) → In y (F (children p)) → In y (x ∷ pre t)
         closed p y (inl q) i = inr (top-children y (subst (λ (z : ℕ). In y (F (children z))) q i))

@@ -26,6 +26,7 @@ from_then f (by_next g e h) = by_next (from_then f g) e h
 -- a tree with a node in it has a top
 top-some : (v : View) (o : ℕ) (t : Tree) → Hang v o t → (y : ℕ) → In y (pre t) → top t ≢ 0
 top-some v o (node x k n) h y i = h.0
+top-some v o none h y i = elim i [ ]
 
 -- the tree of x's children, with each node once
 pub record Below (v : View) (live : ℕ → Type 0) (x : ℕ) : Type 0 where
@@ -75,6 +76,7 @@ module _ (v : View) (live : ℕ → Type 0) (N : Nodes live) (S : SoundLinks v l
       go : In y (pre k) ⊎ In y (pre n) → (In y (pre k) → From v (top k) y) → (In y (pre n) → From v (top n) y) → From v x y
       go (inl w) f g = from_then (by-child at_once s.3 (top-some v x k s.4 y w)) (f w)
       go (inr w) f g = from_then (by_next at_once s.2 (top-some v o n s.5 y w)) (g w)
+  in-from o none s y x'' = elim x'' [ ]
 
   from_deep : {a y : ℕ} (d : ℕ) → live a → Deep v d a → From v a y → live y × ((n : ℕ) × Deep v n y × (d ≤ n))
   from_deep d l a at_once = (l, (d, a, le_refl d))
