@@ -24,7 +24,7 @@ use sound::guard;
 pub const FREE: u32 = 65536;
 
 // The first slot of the free chain, 0 where there is none, and the header without it.
-#[derive(Drop)]
+#[derive(Clone, Copy)]
 pub struct Popped {
     pub slot: u32,
     pub header: Header,

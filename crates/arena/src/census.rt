@@ -8,7 +8,7 @@ use link::id::stamp_of;
 use link::words::{Slot, capacity, get_word};
 
 // Live; removed and not spent; spent; never used.
-#[derive(Drop)]
+#[derive(Clone, Copy)]
 pub struct Census {
     pub live: u32,
     pub free: u32,
@@ -17,7 +17,7 @@ pub struct Census {
 }
 
 // A number of the table with the census; with four zeros where it refuses.
-#[derive(Drop)]
+#[derive(Clone, Copy)]
 pub struct Counted {
     pub number: u32,
     pub census: Census,

@@ -13,7 +13,7 @@ use command::start::start;
 use link::header::Header;
 
 // What is left of the commands done: the header, and what is known of the memory.
-#[derive(Drop)]
+#[derive(Clone, Copy)]
 pub struct Performed {
     pub header: Header,
     pub known: Known,

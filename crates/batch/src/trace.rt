@@ -5,7 +5,7 @@ ghost use Rattle.batch.specs.Trace.{size, command_at, answers_of};
 use command::command::Command;
 use little_endian::number::get_32;
 
-#[derive(Drop)]
+#[derive(Clone, Copy)]
 pub struct Trace(pub usize);
 
 impl Trace {

@@ -16,14 +16,14 @@ use rules::answer::{Answer, Number};
 use sound::fit;
 
 // What the guard says on ready memory, and how many scratch words are known to be zero then.
-#[derive(Drop)]
+#[derive(Clone, Copy)]
 pub struct Room {
     pub number: u32,
     pub clean: usize,
 }
 
 // What a command answers on ready memory, which stays so, and how many scratch words are known to be zero then.
-#[derive(Drop)]
+#[derive(Clone, Copy)]
 pub struct Acted {
     pub answer: Answer,
     pub clean: usize,

@@ -7,7 +7,7 @@ use link::words::Slot;
 use moves::place::Place;
 
 // The calls that change the tree and need ready memory.
-#[derive(Drop)]
+#[derive(Clone, Copy)]
 pub enum Change {
     New,
     Move(Place),
@@ -20,7 +20,7 @@ pub enum Change {
 }
 
 // What a command can ask for. A read is of the word that it gives.
-#[derive(Drop)]
+#[derive(Clone, Copy)]
 pub enum Call {
     Make(Change),
     Read(u32),

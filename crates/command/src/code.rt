@@ -3,7 +3,7 @@ ghost use Rattle.std.specs.Prelude.{◌≡◌, ◌<◌, ◌≤◌};
 ghost use Rattle.command.specs.Codes.{argument_table, limit_table, arguments_of, acceptable};
 
 // The codes of document 01, 1 to 24.
-#[derive(Drop)]
+#[derive(Clone, Copy)]
 pub struct Code(pub u8);
 
 impl Code {
@@ -84,7 +84,7 @@ impl Code {
 
 // What a command does, apart from its detail: one jump by it leads to the work. Reads and set stand first: they need neither scratch
 // nor ready memory.
-#[derive(Drop)]
+#[derive(Clone, Copy)]
 pub struct Kind(pub u8);
 
 impl Kind {

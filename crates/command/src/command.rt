@@ -10,7 +10,7 @@ use link::header::Header;
 use rules::answer::Answer;
 
 // Twelve bytes of a trace: the code, its three unused bytes as one number, and the two arguments.
-#[derive(Drop)]
+#[derive(Clone, Copy)]
 pub struct Command {
     pub code: u8,
     pub unused: u32,

@@ -9,7 +9,7 @@ use examine::chain::Verdict;
 use examine::examine::examine;
 use link::header::Header;
 
-#[derive(Drop)]
+#[derive(Clone, Copy)]
 pub struct Known {
     pub looked: bool,
     pub verdict: Verdict,

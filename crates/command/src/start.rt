@@ -18,7 +18,7 @@ use rules::answer::{Number, Reply};
 use sound::{fit, ready_number, sound_result};
 
 // What the guard says, and what is known then.
-#[derive(Drop)]
+#[derive(Clone, Copy)]
 pub struct Gate {
     pub number: u32,
     pub known: Known,
@@ -26,7 +26,7 @@ pub struct Gate {
 
 // What comes of starting a command: its answer, but for the header, which stays; or memory is ready and the command is still to be done.
 // And what is known then.
-#[derive(Drop)]
+#[derive(Clone, Copy)]
 pub struct Begun {
     pub ready: bool,
     pub reply: Reply,

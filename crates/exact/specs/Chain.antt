@@ -3,7 +3,7 @@
 use Rattle.std.specs.Prelude.{◌≡◌, ◌↔◌, Bool, cond, ltb}
 use Rattle.std.proofs.Math.Path.{refl}
 use Rattle.std.proofs.Common.{sym, ap, ap₂, ◌∙◌, true≢false, lt_irrefl, arith}
-use Rattle.std.proofs.Math.Logic.{Iff·trans}
+use Rattle.std.proofs.Math.Logic.{Iff.trans}
 use Rattle.std.proofs.Math.Bool.{true, false}
 use Rattle.std.proofs.lemmas.Bool.{false≢true}
 use mathlib.Core.List.{List, [], ◌∷◌}
@@ -148,7 +148,7 @@ module _ (m : List ℕ) where
           → (ready_b (chain_run (used + 1) m used last false 0 first) ≡ true) ↔ All (Unspent m) c.slots
       chain-ready c =
           let w = chain-followed next (FreeSlot m) used first last c in
-          Iff·trans (by (spent_on false (path next w.steps first)) (followed w)) (unspent w c)
+          Iff.trans (by (spent_on false (path next w.steps first)) (followed w)) (unspent w c)
         where
           by : (b : Bool) → verdict ≡ cond b Spent Ready → (ready_b verdict ≡ true) ↔ (b ≡ false)
           by true e = (λ q. absurd (false≢true (ap ready_b (sym e) ∙ q)), λ z. absurd (true≢false z))

@@ -7,7 +7,7 @@ ghost use Rattle.examine.specs.Chain.{free_word, met_spent, at_end, chain_run};
 use link::words::{Slot, get_word};
 
 // What an examination finds.
-#[derive(Drop)]
+#[derive(Clone, Copy)]
 pub enum Verdict {
     Unsound,
     Spent,

@@ -8,7 +8,7 @@ use link::words::Slot;
 use little_endian::number::{get_16, put_16};
 
 // Numbers of the format.
-#[derive(Drop)]
+#[derive(Clone, Copy)]
 pub struct Image(pub u32);
 
 impl Image {

@@ -6,7 +6,7 @@ ghost use Rattle.lines.specs.Lines.{line_of, lines_of};
 use crate::decimal::put_number;
 
 // The longest line: two numbers of ten digits, a space and a newline.
-#[derive(Drop)]
+#[derive(Clone, Copy)]
 pub struct Line(pub usize);
 
 impl Line {

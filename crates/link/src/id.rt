@@ -8,7 +8,7 @@ ghost use Rattle.link.specs.Found.{found_b};
 use crate::words::{Slot, link_of};
 
 // The stamp of a slot: how often it was handed out and taken back. Negative means removed.
-#[derive(Drop)]
+#[derive(Clone, Copy)]
 pub struct Stamp(pub i16);
 
 impl Stamp {

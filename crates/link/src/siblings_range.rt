@@ -7,21 +7,21 @@ use crate::relations::connect_neighbors;
 use crate::words::{Slot, link_of, set_link};
 
 // From the first to the last along next.
-#[derive(Drop)]
+#[derive(Clone, Copy)]
 pub struct SiblingsRange {
     pub first: u32,
     pub last: u32,
 }
 
 // One whose outer neighbours no longer know it; its parents are out of date.
-#[derive(Drop)]
+#[derive(Clone, Copy)]
 pub struct DetachedSiblingsRange {
     pub first: u32,
     pub last: u32,
 }
 
 // What came of putting nodes somewhere.
-#[derive(Drop)]
+#[derive(Clone, Copy)]
 pub enum Placed {
     Done,
     SiblingsLoop,

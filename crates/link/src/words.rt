@@ -4,7 +4,7 @@ ghost use Rattle.std.specs.Prelude.{◌≡◌, ◌*◌, ◌<◌, ◌≤◌, leng
 ghost use Rattle.link.specs.Words.{width, capacity_of, word, set_word, link, set_link};
 
 // A numbered run of words. Slot 0 is none.
-#[derive(Drop)]
+#[derive(Clone, Copy)]
 pub struct Slot(pub u32);
 
 impl Slot {

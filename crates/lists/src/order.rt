@@ -5,7 +5,7 @@ ghost use Rattle.lists.specs.OrderLinks.{down_b, near_link, far_link, link_else}
 
 use link::words::{Slot, link_of};
 
-#[derive(Drop)]
+#[derive(Clone, Copy)]
 pub enum Order {
     Ancestors,
     Predecessors,

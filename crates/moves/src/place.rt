@@ -5,7 +5,7 @@ ghost use Rattle.moves.specs.Places.{spot};
 use link::words::{Slot, link_of};
 
 // Last child of a target, its first child, the sibling after it, the sibling before it.
-#[derive(Drop)]
+#[derive(Clone, Copy)]
 pub enum Place {
     Append,
     Prepend,
@@ -14,7 +14,7 @@ pub enum Place {
 }
 
 // Under a parent, between two neighbours; each may be none.
-#[derive(Drop)]
+#[derive(Clone, Copy)]
 pub struct Spot {
     pub parent: u32,
     pub previous: u32,

@@ -14,7 +14,7 @@ use link::header::Header;
 use link::words::{Slot, link_of};
 
 // The node that is written next, or none, and where the stack's top is then.
-#[derive(Drop)]
+#[derive(Clone, Copy)]
 pub struct Turned {
     pub node: u32,
     pub top: usize,

@@ -13,7 +13,7 @@ use link::siblings_range::SiblingsRange;
 use link::words::{Slot, link_of, set_link};
 
 // Where the loop of `remove_descendants` stands: the header, and the cursor or none.
-#[derive(Drop)]
+#[derive(Clone, Copy)]
 pub struct Turn {
     pub header: Header,
     pub cursor: u32,

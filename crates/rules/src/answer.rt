@@ -2,7 +2,7 @@
 use link::header::Header;
 
 // The table of numbers answered.
-#[derive(Drop)]
+#[derive(Clone, Copy)]
 pub struct Number(pub u32);
 
 impl Number {
@@ -36,14 +36,14 @@ impl Number {
 }
 
 // What a call that leaves the header alone answers.
-#[derive(Drop)]
+#[derive(Clone, Copy)]
 pub struct Reply {
     pub number: u32,
     pub result: u32,
 }
 
 // What a call that may change the header answers.
-#[derive(Drop)]
+#[derive(Clone, Copy)]
 pub struct Answer {
     pub header: Header,
     pub number: u32,

@@ -14,7 +14,7 @@ use sound::guard;
 use walk::edge::{Edge, Step, next_of_next};
 
 // Where two walks stand that go on together.
-#[derive(Drop)]
+#[derive(Clone, Copy)]
 pub enum Together {
     On(Edge, Edge),
     Same,

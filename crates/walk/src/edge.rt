@@ -6,14 +6,14 @@ use link::id::found;
 use link::words::{Slot, link_of};
 
 // The start or the end of visiting a node.
-#[derive(Drop)]
+#[derive(Clone, Copy)]
 pub enum Edge {
     Start(u32),
     End(u32),
 }
 
 // What a step comes to: an edge, the end of the walk, or an edge whose identifier is not found.
-#[derive(Drop)]
+#[derive(Clone, Copy)]
 pub enum Step {
     Edge(Edge),
     Over,

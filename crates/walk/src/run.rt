@@ -13,7 +13,7 @@ use link::id::{slot_of, stamp_of};
 use link::words::Slot;
 
 // What is next after a run: Start or End of a node, nothing, or an edge that is not found.
-#[derive(Drop)]
+#[derive(Clone, Copy)]
 pub enum Way {
     Starting,
     Ending,
@@ -22,7 +22,7 @@ pub enum Way {
 }
 
 // How many edges are written then, and what is next.
-#[derive(Drop)]
+#[derive(Clone, Copy)]
 pub struct Reached {
     pub count: u32,
     pub id: u32,

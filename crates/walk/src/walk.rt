@@ -11,21 +11,21 @@ use link::words::capacity;
 use rules::answer::Number;
 
 // Where a walk stands: its root, and the next edge while there is one.
-#[derive(Drop)]
+#[derive(Clone, Copy)]
 pub struct Traverse {
     pub root: u32,
     pub next: Step,
 }
 
 // What the start of a walk answers.
-#[derive(Drop)]
+#[derive(Clone, Copy)]
 pub struct Started {
     pub number: u32,
     pub walk: Traverse,
 }
 
 // What a walk answers: the number, how many edges it yielded, and where it stands.
-#[derive(Drop)]
+#[derive(Clone, Copy)]
 pub struct Walked {
     pub number: u32,
     pub result: u32,

@@ -9,7 +9,7 @@ ghost use Rattle.walk.specs.Edges.{step_from};
 use walk::edge::{Edge, Step, step_from};
 
 // The node words, how many slots are in use, the root, and the edge that is next.
-#[derive(Drop)]
+#[derive(Clone, Copy)]
 pub struct Walker<'a> {
     pub words: &'a [u32],
     pub used: u32,
