@@ -50,7 +50,7 @@ pub fn ready_number(verdict: Verdict) -> u32
 
 // Whether memory is sound: result 1 exactly where it is, 0 else.
 pub fn validate(words: &[u32], h: Header, scratch: &mut [u32]) -> Reply
-    ensures result_after { (scratch.new, result) ≡ validated words.now h scratch.old }
+    ensures outcome { (scratch.new, result) ≡ validated words.now h scratch.old }
     ensures exact { (result.result ≡ 1) ↔ ((h.used ≤ capacity_of (length words.now)) × (2 * h.used ≤ length scratch.old) × Sound words.now h) }
 {
     let used = h.used;
@@ -65,7 +65,7 @@ pub fn validate(words: &[u32], h: Header, scratch: &mut [u32]) -> Reply
 
 // The number of the first test that refuses, of those that every call with ready memory makes; DONE where none does.
 pub fn guard(words: &[u32], h: Header, scratch: &mut [u32]) -> u32
-    ensures scratch_after { (scratch.new ≡ scratch_after words.now h scratch.old) × (result ≡ guard_no words.now h (length scratch.old)) }
+    ensures outcome { (scratch.new ≡ scratch_after words.now h scratch.old) × (result ≡ guard_no words.now h (length scratch.old)) }
     ensures exact { (result ≡ 0) ↔ ((h.used ≤ capacity_of (length words.now)) × (2 * h.used ≤ length scratch.old) × Ready words.now h) }
 {
     let used = h.used;

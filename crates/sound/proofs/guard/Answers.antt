@@ -20,10 +20,11 @@ returns-then-number-eq0 c =
     let s = a.scratch.now in
     let f = (fit-done (length m) a.h.used (length s)).0 (sym c.fit-number.ensures ∙ c.if-number-eq0.true) in
     let number : (c.ready_number.result ≡ guard_no m a.h (length s)) =
-    c.ready_number.ensures ∙ ap ready_no c.examine-verdict.ensures.1 ∙ sym (guard-fits m a.h (length s) f) in (
-      (c.examine-verdict.ensures.0 ∙ sym (scratch-fits m a.h s f), number),
-      rw number (guard-ready m a.h (length s)),
-    )
+    c.ready_number.ensures ∙ ap ready_no c.examine-verdict.ensures.1 ∙ sym (guard-fits m a.h (length s) f) in
+    record {
+      outcome = (c.examine-verdict.ensures.0 ∙ sym (scratch-fits m a.h s f), number);
+      exact = rw number (guard-ready m a.h (length s));
+    }
 
 pub returns : goal.returns
 returns c =
@@ -31,7 +32,8 @@ returns c =
     let m = a.words.now in
     let s = a.scratch.now in
     let unfit : (fit_no (length m) a.h.used (length s) ≡ DONE → ⊥) = (λ e. c.if-number-eq0.false (c.fit-number.ensures ∙ e)) in
-    let number : (c.fit-number.result ≡ guard_no m a.h (length s)) = c.fit-number.ensures ∙ sym (guard-unfit m a.h (length s) unfit) in (
-      (sym (scratch-unfit m a.h s unfit), number),
-      rw number (guard-ready m a.h (length s)),
-    )
+    let number : (c.fit-number.result ≡ guard_no m a.h (length s)) = c.fit-number.ensures ∙ sym (guard-unfit m a.h (length s) unfit) in
+    record {
+      outcome = (sym (scratch-unfit m a.h s unfit), number);
+      exact = rw number (guard-ready m a.h (length s));
+    }

@@ -18,10 +18,10 @@ returns-then-number-eq0 c =
     let m = a.words.now in
     let whole = validated-fits m a.h a.scratch.now c.fit-number.ensures c.if-number-eq0.true c.examine-verdict.ensures.0
     (c.sound_result-result.ensures ∙ ap sound_result c.examine-verdict.ensures.1) in
-    (whole, validated_exact m a.h a.scratch.now whole)
+    record { outcome = whole; exact = validated_exact m a.h a.scratch.now whole }
 
 pub returns : goal.returns
 returns c =
     let a = c.args in
     let whole = validated-unfit a.words.now a.h a.scratch.now c.fit-number.ensures c.if-number-eq0.false in
-    (whole, validated_exact a.words.now a.h a.scratch.now whole)
+    record { outcome = whole; exact = validated_exact a.words.now a.h a.scratch.now whole }

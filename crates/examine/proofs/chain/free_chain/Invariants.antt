@@ -2,7 +2,6 @@
 use mathlib.Core.Path.{◌≡◌}
 use mathlib.Core.Bool.{false}
 use Prim.Native.Nat.{◌+◌}
-use Rattle.link.specs.Words.{word}
 use Rattle.examine.specs.Chain.{chain_run}
 use Rattle.examine.proofs.chain.free_chain.Given as goal
 

@@ -1,7 +1,7 @@
 -- The contract of `examine::examine::zero_fill`.
 use mathlib.Core.Path.{◌≡◌, refl}
 use native.Mathlib.Omega.{arith}
-use lib.ListN.{length, length-set}
+use lib.ListN.{length-set}
 use borrow.Author.Fill.{fill_more}
 use Rattle.examine.specs.Scratch.{zeroed}
 use Rattle.examine.proofs.examine.zero_fill.Goals as goal

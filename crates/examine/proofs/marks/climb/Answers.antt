@@ -1,6 +1,6 @@
 -- The contract of `examine::marks::climb`.
 use mathlib.Core.Path.{◌∙◌, sym}
-use lib.ListN.{length, length-set}
+use lib.ListN.{length-set}
 use borrow.Author.Tests.{lt-ltb, le-ltb}
 use Rattle.examine.specs.MarkLaws.{climb-out, climb-step}
 use Rattle.examine.proofs.marks.climb.Goals as goal

@@ -1,7 +1,7 @@
 -- The contract of `examine::slots::look_at_all`.
 use mathlib.Core.Path.{◌∙◌, sym}
 use native.Mathlib.Omega.{arith}
-use lib.ListN.{length, length-set}
+use lib.ListN.{length-set}
 use borrow.Author.Tests.{eq-eqb, ne_eqb}
 use Rattle.examine.specs.Slots.{bad, look}
 use Rattle.examine.specs.SlotLaws.{look-out, look-step}

@@ -2,7 +2,7 @@
 use mathlib.Core.Path.{◌≡◌}
 use Prim.Native.Nat.{◌+◌, ◌<◌}
 use lib.ListN.{length}
-use Rattle.examine.specs.Slots.{look, look_run}
+use Rattle.examine.specs.Slots.{look_run}
 use Rattle.examine.proofs.slots.look_at_all.Given as goal
 
 abbrev pub invariant-loop-left : goal.invariant-loop-left

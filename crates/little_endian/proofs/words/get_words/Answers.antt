@@ -3,7 +3,7 @@ use mathlib.Core.List.{List}
 use mathlib.Core.Path.{◌≡◌, ◌∙◌, ap}
 use Prim.Native.Nat.{◌+◌, ◌*◌, ℕ}
 use native.Mathlib.Omega.{arith}
-use lib.ListN.{set, length-set, length}
+use lib.ListN.{set, length-set}
 use lib.Seq.{sets}
 use borrow.Author.Rules.{rules}
 use Rattle.little_endian.specs.Bytes.{number_at, numbers_at}

@@ -1,7 +1,7 @@
 -- The contract of `little_endian::words::get_words`.
 use mathlib.Core.Path.{◌≡◌}
 use Prim.Native.Nat.{◌-◌, ◌≤◌}
-use lib.ListN.{set, length}
+use lib.ListN.{length}
 use lib.Seq.{sets}
 use Rattle.little_endian.specs.Bytes.{numbers_at}
 use Rattle.little_endian.proofs.words.get_words.Given as goal
