@@ -78,6 +78,7 @@ module _ (v : View) (live : ℕ → Type 0) (F : Forest) (H : Holds v live F) (c
 
       some : (xs : List ℕ) → In y xs → Off 0 xs → head_or xs 0 ≢ 0
       some (a ∷ xs) t o z = o.0 (sym z)
+      some mathlib.Core.List.[] t o z = elim t [ ]
 
       go : (k : Key) → OwnerIn live k → In y (F k) → v par y ≡ owner k → v fst (v par y) ≢ 0
       go (roots i) ok t q = absurd (h q)

@@ -65,6 +65,7 @@ module _ (m : List ℕ) (h : Header) (F : Forest) (H : Forested m h F) (t x j : 
     where
       go : In t (x ∷ []) → ⊥
       go (inl e) = ne e
+      go (inr x'') = elim x'' [ ]
 
   lands : (place : Place) (k : Key) (ls rs : List ℕ) → Goes place F t k ls rs → Lands place k ls rs
   lands Append k ls rs (ek, el, er) = record {

@@ -25,6 +25,7 @@ all_none f (x ∷ xs) y (inl e) = go (all_none (at f x 0) xs y) (in-dec y xs)
     go : (In y xs → all_at (at f x 0) xs 0 y ≡ 0) → Off y xs ⊎ In y xs → all_at (at f x 0) xs 0 y ≡ 0
     go ih (inl o) = all_off (at f x 0) xs 0 y o ∙ ap (at f x 0) e ∙ at_same f x 0
     go ih (inr t) = ih t
+all_none f [] y x' = elim x' [ ]
 
 -- the links after it
 abbrev pub cut : View → ℕ → List ℕ → View
@@ -116,6 +117,7 @@ module _ (live : ℕ → Type 0) (F : Forest) (M : Members live F) (x : ℕ) (lx
     where
       one : (y c : ℕ) → In c cs → In y (c ∷ []) → live y × (roots (number c) ≡ home_of y) × Unit {0}
       one y c t (inl e) = (subst live (sym e) (M.member (children x) c t).0, sym (home_in_lem c t) ∙ ap home_of (sym e), tt)
+      one y c t (inr x'') = elim x'' [ ]
 
       alone : (y : ℕ) → In y cs → (k : Key) → k ≡ roots (number y) → In y (G k)
       alone y i = edit_elim (λ z xs. z ≡ roots (number y) → In y xs)
