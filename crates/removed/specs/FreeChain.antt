@@ -204,6 +204,8 @@ module _ (m : List ℕ) (h : Header) (c : ℕ) (f : Freeable m h c) (fs : List �
     where
       only : (y : ℕ) → In y (c ∷ []) → Found m h.used y
       only y (inl e) = rw e f.0
+      only y (inr x') = elim x' [ ]
 
       stamp : (y : ℕ) → In y (c ∷ []) → word m' (slot_of y) STAMP ≡ 65536 + removed_bits (stamp_of y)
       stamp y (inl e) = rw e (free-stamp m h c f)
+      stamp y (inr x') = elim x' [ ]

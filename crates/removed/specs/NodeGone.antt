@@ -50,6 +50,7 @@ use Rattle.removed.specs.NodeRule.{keys-apart, out_at, out-other, inside-alone, 
 seg-parent : (p q n : ℕ → ℕ) (o b : ℕ) (xs : List ℕ) (e : ℕ) → Segment p q n o b xs e → (y : ℕ) → In y xs → p y ≡ o
 seg-parent p q n o b (x ∷ xs) e s y (inl r) = ap p r ∙ s.0
 seg-parent p q n o b (x ∷ xs) e s y (inr t) = seg-parent p q n o x xs e s.3 y t
+seg-parent p q n o b [] e s y x'' = elim x'' [ ]
 
 -- naming a parent to ms is the same of two functions that agree
 all_same : (f g : ℕ → ℕ) (ms : List ℕ) (o y : ℕ) → f y ≡ g y → all_at f ms o y ≡ all_at g ms o y

@@ -14,6 +14,7 @@ dropped_in F (x ∷ xs) i p t = go (dropped_in F xs i p) t
     go : (In p xs → dropped F xs i (children p) ≡ []) → In p (x ∷ xs) → put (dropped F xs i) (children x) [] (children p) ≡ []
     go ih (inl e) = ap (λ (z : ℕ). put (dropped F xs i) (children x) [] (children z)) e ∙ put_same (dropped F xs i) (children x) []
     go ih (inr u) = put_elim (λ k ys. k ≡ children p → ys ≡ []) (dropped F xs i) (children x) [] (λ _. refl) (λ k _ q. ap (dropped F xs i) q ∙ ih u) (children p) refl
+dropped_in F [] i p t = elim t [ ]
 
 dropped_off : (F : Forest) (xs : List ℕ) (i k : Key) → k ≢ i → ((p : ℕ) → k ≡ children p → Off p xs) → dropped F xs i k ≡ F k
 dropped_off F [] i k n o = put_other F i [] k n

@@ -39,6 +39,7 @@ hang-above v o (node a k n) oz h y (inr t) = go (in_cases y (pre k) (pre n) t) (
     go : In y (pre k) ⊎ In y (pre n) → (In y (pre k) → Above (v par) a y) → (In y (pre n) → Above (v par) o y) → Above (v par) o y
     go (inl w) f g = above_then (higher h.0 (subst (Above (v par) o) (sym h.1) (self oz))) (f w)
     go (inr w) f g = g w
+hang-above v o none oz h y x3 = elim x3 [ ]
 
 -- ---- views that agree at the tree's nodes
 
