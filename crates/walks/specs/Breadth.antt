@@ -31,6 +31,8 @@ module _ (m : List ℕ) where
   under-append : (ys : List ℕ) (ks : List Tree) (zs : List ℕ) (ls : List Tree) → Under ys ks → Under zs ls → Under (ys ++ zs) (ks ++ ls)
   under-append [] [] zs ls a b = b
   under-append (y ∷ ys) (k ∷ ks) zs ls a b = (a.0, a.1, under-append ys ks zs ls a.2 b)
+  under-append (y ∷ ys) [] zs ls a b = elim a [ ]
+  under-append [] (k ∷ ks) zs ls a b = elim a [ ]
 
   under-row : (o : ℕ) (t : Tree) → Hang (view m) o t → Under (row t) (below t)
   under-row o none w = tt
@@ -100,6 +102,11 @@ module _ (m : List ℕ) where
         (subst (λ (ts : List Tree). length xs + sizes (k ∷ ts) ≡ places) (sym e) s) (subst (λ (ts : List Tree). length (y ∷ ys) + sizes (k ∷ ts) ≤ suc n) (sym e) f)
         ∙ ap (λ (l : List ℕ). xs ++ l) (sym (levels-turn (k ∷ r)) ∙ ap (λ (ts : List Tree). levels (sizes ts) ts) (sym (append-nil (k ∷ r))))
     lists (suc n) xs asked (y ∷ ys) (k ∷ q) r a d u s f = pop n (lists n) xs asked y ys k q r a d u s f
+    lists (suc n) xs asked (y ∷ ys) [] [] a d u s f = elim u [ ]
+    lists (suc n) xs asked [] (k ∷ q) r a d u s f = elim u [ ]
+    lists (suc n) xs asked [] [] (k ∷ r) a d u s f = elim u [ ]
+    lists zero xs asked [] (k ∷ q) r a d u s f = elim u [ ]
+    lists zero xs asked [] [] (k ∷ r) a d u s f = elim u [ ]
 
 module _ (m : List ℕ) (h : Header) (sound : Sound m h) (x : ℕ) (f : Found m h.used x) where
   -- Level order: the tree's rows, from the top down.

@@ -132,6 +132,7 @@ in-post (node x k n) y i = go (in-post k y) (in-post n y) (in_cases y (post k) (
     go f g (inl j) = inr (in_left y (pre k) (pre n) (f j))
     go f g (inr (inl e)) = inl e
     go f g (inr (inr j)) = inr (in_right y (pre k) (pre n) (g j))
+in-post none y i = elim i [ ]
 
 -- no node stands twice in postorder where none does in preorder
 pub once-post : (t : Tree) → NoDup (pre t) → NoDup (post t)
