@@ -1,6 +1,6 @@
 -- Ready memory saved and loaded comes back unchanged: the words of the slots in use, the header, and so the tree.
 -- Excluded: an image that loses the last free slot; a load that shifts the words by a byte; words behind the slots in use brought along.
-use Rattle.std.specs.Prelude.{◌≡◌, ◌⊎◌, true, ℕ, ◌+◌, ◌*◌, ◌≤◌, ◌<◌}
+use Rattle.std.specs.Prelude.{◌≡◌, ◌⊎◌, true, ℕ, ◌*◌, ◌≤◌, ◌<◌}
 use Rattle.std.proofs.Math.Path.{refl, ap, ap₂}
 use Rattle.std.proofs.Common.{sym, ◌∙◌, inl, inr, arith}
 use mathlib.Core.List.{List, [], ◌++◌, append-nil}
