@@ -1,6 +1,6 @@
 -- One command on memory that is known to be ready: what each way out leaves.
 -- From the laws of the guard, and from what the changes keep.
-use Rattle.std.specs.Prelude.{◌≡◌, true, false, length}
+use Rattle.std.specs.Prelude.{◌≡◌, false, length}
 use Rattle.std.proofs.Math.Path.{refl, sym, ap, subst}
 use Rattle.std.proofs.Common.{◌∙◌, arith, le-leb}
 use Rattle.std.proofs.lemmas.Bool.{false≢true}
@@ -21,7 +21,7 @@ use Rattle.arena.specs.Reads.{read_word, set_number}
 use Rattle.arena.specs.Census.{census_of, live_call}
 use Rattle.lists.specs.Listing.{counted}
 use Rattle.command.specs.Kinds.{call_by}
-use Rattle.command.specs.Commands.{Outcome, changed, keeping, called}
+use Rattle.command.specs.Commands.{changed, keeping, called}
 use Rattle.command.specs.Known.{gate, ready, settled, Knows, Looked, Gated, Did}
 use Rattle.command.specs.StepLaws.{ready-verdict, gated-fit, gated-unfit, gated-settled, did-kept, did-set, did-refused, did_made}
 use Rattle.command.specs.Acts.{acted, free_b, Roomed}

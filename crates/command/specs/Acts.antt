@@ -1,6 +1,6 @@
 -- What a command does on ready memory, and what comes of starting one where memory is not known to be ready.
 -- No promise to the user: only what a batch goes by from one command to the next.
-use Rattle.std.specs.Prelude.{◌≡◌, Bool, true, false, List, ℕ, ◌≤◌, ◌<◌, length}
+use Rattle.std.specs.Prelude.{◌≡◌, Bool, true, false, List, ℕ, ◌≤◌, ◌<◌}
 use Rattle.link.specs.declared.header.Header.{Header}
 use Rattle.rules.specs.Answers.{DONE, reply, answer}
 use Rattle.rules.specs.declared.answer.Answer.{Answer}
