@@ -138,6 +138,7 @@ module _ (w : Memory) (F : Fine w) where
 
             kept : (f : Found m h.used x) (y : ℕ) → ⊥ ⊎ (Found m h.used y × Off y (gone f)) → KeptNow w (change c a b) told w' y
             kept f y (inr q) = record { was = q.0; same = (goes f).gone.numbers y q.0 q.1; none = λ n s. rw none at s.0 }
+            kept f y (inl x3) = elim x3 [ ]
 
     -- a node made, and links changed after it
     creation : (x n : ℕ) (m₁ : List ℕ) → Effect m h m₁ work.1.header (x ∷ []) [] → Kept m₁ work.0 → word m₁ (slot_of x) NUMBER ≡ n
@@ -163,6 +164,8 @@ module _ (w : Memory) (F : Fine w) where
           where
             other : (y ≡ x) ⊎ ⊥ → ⊥
             other (inl e) = new (subst (Found m h.used) e g.0)
+            other (inr x3) = elim x3 [ ]
+        number y (inl (inr x3)) = elim x3 [ ]
 
   -- ---- each change
 
@@ -232,6 +235,7 @@ module _ (w : Memory) (F : Fine w) where
       to : In y (post (below x f)) ⊎ In y (x ∷ []) → (y ≡ x) ⊎ Descendant w x y
       to (inl i) = inr ((in-below x f y).0 i)
       to (inr (inl e)) = inl e
+      to (inr (inr x3)) = elim x3 [ ]
 
       from : (y ≡ x) ⊎ Descendant w x y → In y (post (below x f) ++ x ∷ [])
       from (inl e) = in_right y (post (below x f)) (x ∷ []) (inl e)
@@ -242,6 +246,7 @@ module _ (w : Memory) (F : Fine w) where
     where
       to : (y ≡ x) ⊎ ⊥ → y ≡ x
       to (inl e) = e
+      to (inr x'') = elim x'' [ ]
 
   pub change-step : (c : Change) (a b : ℕ) → Step w (change c a b) (called (change c a b) w)
   unfolding below

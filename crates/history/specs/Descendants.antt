@@ -52,6 +52,7 @@ hang-above v o (node a k n) oz h y (inr t) =
     go : In y (pre k) ⊎ In y (pre n) → (In y (pre k) → Above (v par) a (v par y)) → (In y (pre n) → Above (v par) o (v par y)) → Above (v par) o (v par y)
     go (inl w) f g = above_then (higher h.0 (subst (Above (v par) o) (sym h.1) (self oz))) (f w)
     go (inr w) f g = g w
+hang-above v o none oz h y x3 = elim x3 [ ]
 
 -- ---- a chain that begins where the tree does is of the tree
 
@@ -61,6 +62,7 @@ chain_in p q v o b (x ∷ xs) none s z h e y i = absurd (z.0 (sym e))
 chain_in p q v o b (x ∷ xs) (node a k r) s z h e y (inl w) = inl (w ∙ e)
 chain_in p q v o b (x ∷ xs) (node a k r) s z h e y (inr w) =
     inr (in_right y (pre k) (pre r) (chain_in p q v o x xs r s.3 z.1 h.5 (sym s.2 ∙ ap (v nxt) e ∙ h.2) y w))
+chain_in p q v o b mathlib.Core.List.[] t s z h e y i = elim i [ ]
 
 -- a node of the tree, and the tree of its children: what is in that is in the tree
 record Inner (v : View) (t : Tree) (p : ℕ) : Type 0 where
@@ -81,6 +83,7 @@ inner v o (node a k n) h p (inr t) = go (in_cases p (pre k) (pre n) t) (inner v 
     go : In p (pre k) ⊎ In p (pre n) → (In p (pre k) → Inner v k p) → (In p (pre n) → Inner v n p) → Inner v (node a k n) p
     go (inl w) f g = let r = f w in record { tree = r.tree; tops = r.tops; hangs = r.hangs; inside = λ y i. inr (in_left y (pre k) (pre n) (r.inside y i)) }
     go (inr w) f g = let r = g w in record { tree = r.tree; tops = r.tops; hangs = r.hangs; inside = λ y i. inr (in_right y (pre k) (pre n) (r.inside y i)) }
+inner v o none h p x'' = elim x'' [ ]
 
 -- ---- the tree below a node of sound memory
 

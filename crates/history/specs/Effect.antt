@@ -50,6 +50,7 @@ effect-still m m' h K = record {
   where
     back : (y : ℕ) → ⊥ ⊎ (Found m h.used y × Unit {0}) → Found m' h.used y
     back y (inr w) = (still-found K h.used y).1 w.0
+    back y (inl x') = elim x' [ ]
 
 -- ---- links changed after it
 
@@ -79,6 +80,7 @@ effect-gone m h R xs after D = record {
 
     back : (y : ℕ) → ⊥ ⊎ (Found m h.used y × Off y xs) → Found after.0 after.1.header.used y
     back y (inr w) = (G.found y).1 w
+    back y (inl x') = elim x' [ ]
 
     same : (s : ℕ) → 0 < s → ((y : ℕ) × In y xs × (slot_of y ≡ s)) ⊎ ((y : ℕ) → In y xs → slot_of y ≢ s) → Dec (s ≤ h.used)
         → times_out after.0 h.used s ≡ times_out m h.used s
@@ -113,6 +115,7 @@ effect-made m m' h h' x n C own others joined = record {
     from : (y : ℕ) → ((y ≡ x) ⊎ ⊥) ⊎ (Found m h.used y × Unit {0}) → Found m' h'.used y
     from y (inl (inl e)) = subst (Found m' h'.used) (sym e) C.found
     from y (inr w) = C.kept y w.0
+    from y (inl (inr x3)) = elim x3 [ ]
 
     count : (s : ℕ) → 0 < s → Dec (slot_of x ≡ s) → times_out m' h'.used s ≡ times_of s (x ∷ []) + times_out m h.used s
     count s p (yes e) =
@@ -123,3 +126,4 @@ effect-made m m' h h' x n C own others joined = record {
 
     stamps : (y : ℕ) → (y ≡ x) ⊎ ⊥ → (0 < slot_of y) × (stamp_of y ≡ times_out m h.used (slot_of y))
     stamps y (inl e) = rw e (C.found.from, own.0)
+    stamps y (inr x'') = elim x'' [ ]

@@ -23,6 +23,7 @@ since-more P Q [] e = (to, from)
   where
     to : (P e × Unit {0}) ⊎ ⊥ → P e ⊎ (⊥ × Q e)
     to (inl p) = inl p.0
+    to (inr x') = elim x' [ ]
 
     from : P e ⊎ (⊥ × Q e) → (P e × Unit {0}) ⊎ ⊥
     from (inl p) = inl (p, tt)

@@ -69,6 +69,7 @@ joins_in : (y : ℕ) (xs : List ℕ) → In y xs → stamp_of y ≢ 32767 → In
 joins_in y (x ∷ xs) (inl e) n =
     in_left (slot_of y) (joins x) (joining xs) (simp (ne_eqb (stamp_of x) 32767 (λ q. n (ap stamp_of e ∙ q))) (inl (ap slot_of e)))
 joins_in y (x ∷ xs) (inr t) n = in_right (slot_of y) (joins x) (joining xs) (joins_in y xs t n)
+joins_in y [] x'' n = elim x'' [ ]
 
 module _ (m m' : List ℕ) (h h' : Header) (xs : List ℕ) (G : Gone m h xs m' h') (chain : FreeOf m h) (left : FreeOf m' h')
     (behind : left.slots ≡ chain.slots ++ joining xs) where
@@ -118,6 +119,7 @@ module _ (m : List ℕ) (h : Header) (chain : FreeOf m h) (v : ℕ) where
               (made-linked m h.used h.used h.first k v p (omega arith) fs away w.1 l.1)
               (slots-some (FreeSlot m') h'.used c.slots c.within) (slots-some (FreeSlot m) h.used fs w.1)
               (sym c.begins ∙ ef ∙ ap (λ (z : ℕ). word m z NUMBER) b ∙ l.0)
+      by [] b l w d x5 = elim x5 [ ]
 
   -- in the next fresh slot, where the chain is empty
   pub joined-fresh : (h' : Header) (k : ℕ) → h.first ≡ 0 → (h.used + 1) * width ≤ length m → k ≤ 32767 → h'.used ≡ h.used + 1
@@ -138,3 +140,4 @@ module _ (m : List ℕ) (h : Header) (chain : FreeOf m h) (v : ℕ) where
 
       empty : (fs : List ℕ) → head_or fs 0 ≡ 0 → All (λ t. (1 ≤ t) × (t ≤ h.used) × FreeSlot m t) fs → In s fs → ⊥
       empty (t ∷ fs) q w i = let p = w.0.0 in omega arith
+      empty [] q w i = elim i [ ]

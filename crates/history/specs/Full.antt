@@ -98,6 +98,7 @@ module _ (size : ℕ) (w : Memory) (es : List Event) (G : Good size w es) where
         where
           empty : (fs : List ℕ) → head_or fs 0 ≡ 0 → All (λ t. (1 ≤ t) × (t ≤ h.used) × FreeSlot m t) fs → In s fs → ⊥
           empty (t ∷ fs) e v i = let p = v.0.0 in omega arith
+          empty mathlib.Core.List.[] e v i = elim i [ ]
 
   -- what a creation answers, by the free chain and the fresh slots
   told : (c : Change) (a b : ℕ) → number_of (called (change c a b) w).1 ≡ (changed c a b m h).1.number
@@ -138,3 +139,9 @@ module _ (size : ℕ) (w : Memory) (es : List Event) (G : Good size w es) where
   creation_exactly (Value place) a b ok =
       subst Exactly (sym (told (Value place) a b ∙ value-number place a b ∙ value.value_found m h a (is_found m h.used a ok) ∙ sym (value.new-number m h b)))
       (new_exactly b)
+  creation_exactly (Rattle.command.specs.declared.call.Change.TheVariants.Move _) a b ok = elim ok [ ]
+  creation_exactly Rattle.command.specs.declared.call.Change.TheVariants.Detach a b ok = elim ok [ ]
+  creation_exactly Rattle.command.specs.declared.call.Change.TheVariants.DetachChildren a b ok = elim ok [ ]
+  creation_exactly Rattle.command.specs.declared.call.Change.TheVariants.Remove a b ok = elim ok [ ]
+  creation_exactly Rattle.command.specs.declared.call.Change.TheVariants.RemoveChildren a b ok = elim ok [ ]
+  creation_exactly Rattle.command.specs.declared.call.Change.TheVariants.RemoveSubtree a b ok = elim ok [ ]

@@ -1,6 +1,6 @@
 -- What holds after any calls, by one call more at the end: from what each call does. The identifiers handed out are distinct, since a slot's
 -- stamps rise; what is found, and with which number, is what the history says.
-use Rattle.std.specs.Prelude.{◌≡◌, ◌⊎◌, ◌↔◌, List, [], ◌∷◌, ◌++◌, ℕ, ◌+◌, ◌<◌, ◌≤◌, length}
+use Rattle.std.specs.Prelude.{◌≡◌, ◌⊎◌, ◌↔◌, List, [], ◌∷◌, ◌++◌, ℕ, ◌<◌, ◌≤◌, length}
 use Rattle.std.proofs.Common.{sym, ap, ◌∙◌, subst, inl, inr, append-nil, append_assoc, arith, eq-eqb}
 use Rattle.link.specs.Ids.{slot_of, stamp_of}
 use Rattle.rules.specs.Lists.{In, NoDup}
@@ -30,6 +30,7 @@ pub record Good (size : ℕ) (w : Memory) (es : List Event) : Type 0 where
 in-times : (x : ℕ) (xs : List ℕ) → In x xs → 1 ≤ times_of (slot_of x) xs
 in-times x (y ∷ ys) (inl e) = simp (eq-eqb (slot_of y) (slot_of x) (ap slot_of (sym e))) (omega arith)
 in-times x (y ∷ ys) (inr t) = let a = in-times x ys t in omega arith
+in-times x [] x'' = elim x'' [ ]
 
 module _ (size : ℕ) (w : Memory) (es : List Event) (G : Good size w es) (c : Call) (S : Step w c (called c w)) where
   abbrev e : Event

@@ -1,6 +1,6 @@
 -- On sound memory, walking all root chains meets each found node exactly once, and nothing else: every node has one root above it, which
 -- stands in one root chain, and a root chain has one first node.
-use Rattle.std.specs.Prelude.{◌≡◌, refl, ◌≢◌, ◌⊎◌, ◌↔◌, Bool, true, false, cond, ◌&&◌, List, [], ◌∷◌, ◌++◌, ℕ, zero, suc, ◌+◌, ◌≤◌, eqb}
+use Rattle.std.specs.Prelude.{◌≡◌, refl, ◌⊎◌, ◌↔◌, Bool, true, false, cond, ◌&&◌, List, [], ◌∷◌, ◌++◌, ℕ, zero, suc, ◌≤◌, eqb}
 use Rattle.std.proofs.Common.{sym, ap, ◌∙◌, subst, inl, inr, append-nil, arith, eq-eqb, eqb-true}
 use Rattle.std.proofs.lemmas.Bool.{false≢true}
 use Rattle.std.proofs.Math.Decide.{ℕ_discrete}
@@ -160,6 +160,7 @@ module _ (m : List ℕ) (h : Header) (S : Sound m h) where
           let at = H.members.member (home r) y (rw q (inl refl)) in
           let s = subst (λ (zs : List ℕ). Segment (view m par) (view m prv) (view m nxt) (owner (home r)) 0 zs 0) q (H.chains (home r) at.2).segment in
           (y, (at.0, s.0 ∙ none, s.1), subst (In r) (sym q ∙ ap F at.1) i)
+      by [] q i = elim i [ ]
 
   abbrev leaders : List ℕ
   leaders = firsts m h.used

@@ -1,6 +1,6 @@
 -- Lists one after the other: their members, no member twice where the lists are apart; and how often a member occurs.
 -- From the definitions.
-use Rattle.std.specs.Prelude.{◌≡◌, refl, ◌⊎◌, ◌↔◌, List, [], ◌∷◌, ◌++◌, ℕ, ◌+◌}
+use Rattle.std.specs.Prelude.{◌≡◌, refl, ◌⊎◌, ◌↔◌, List, [], ◌∷◌, ◌++◌, ℕ}
 use Rattle.std.proofs.Common.{sym, subst, inl, inr, arith, eq-eqb, ne_eqb}
 use Rattle.rules.specs.Lists.{In, Off, NoDup}
 use Rattle.forest.specs.Lists.{in_left, in_right, in_cases, not_in_off, off-not_in, apart_of, nodup_append}
@@ -36,3 +36,4 @@ pub in-occurs : (x : ℕ) (xs : List ℕ) → NoDup xs → In x xs → occurs x 
 in-occurs x (y ∷ ys) d (inl q) = let e = off-occurs x ys (subst (λ (z : ℕ). Off z ys) (sym q) d.0) in simp (eq-eqb y x (sym q)) (omega arith)
 in-occurs x (y ∷ ys) d (inr i) =
     let e = in-occurs x ys d.1 i in simp (ne_eqb y x (λ q. off-not_in y ys d.0 (subst (λ (z : ℕ). In z ys) (sym q) i))) (omega arith)
+in-occurs x [] d x3 = elim x3 [ ]
