@@ -2,7 +2,7 @@
 use mathlib.Core.Path.{refl, sym, ◌∙◌}
 use Prim.Native.Nat.{◌+◌, ◌-◌, ◌/◌, ◌%◌}
 use native.Mathlib.Omega.{arith}
-use lib.ListN.{length, length-set, set}
+use lib.ListN.{length-set, set}
 use Rattle.lines.specs.LineLaws.{digits_pair, digits_one, digits_none}
 use Rattle.lines.proofs.decimal.put_digits.Goals as goal
 

@@ -1,7 +1,7 @@
 -- The contract of `lines::decimal::put_digits`.
 use mathlib.Core.Path.{◌≡◌}
 use Prim.Native.Nat.{◌≤◌}
-use lib.ListN.{length, set}
+use lib.ListN.{length}
 use lib.Seq.{sets}
 use Rattle.lines.specs.Decimal.{digits_of}
 use Rattle.lines.proofs.decimal.put_digits.Given as goal

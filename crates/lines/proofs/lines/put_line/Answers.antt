@@ -24,7 +24,7 @@ put_number-end-requires c =
     let a = c.args in
     let e = number-end a.out.now a.at a.number c.put_number-space.ensures in
     let p = number-places a.out.now a.at a.number c.put_number-space.ensures in
-    let s = length-set c.put_number-space.new.0 c.put_number-space.result 32 in
+    let s = length-set c.put_number-space.new.out c.put_number-space.result 32 in
     omega arith
 
 pub bounds-out-end : goal.bounds-out-end
@@ -32,7 +32,7 @@ bounds-out-end c =
     let a = c.args in
     let e = number-end a.out.now a.at a.number c.put_number-space.ensures in
     let p = number-places a.out.now a.at a.number c.put_number-space.ensures in
-    let s = length-set c.put_number-space.new.0 c.put_number-space.result 32 in
+    let s = length-set c.put_number-space.new.out c.put_number-space.result 32 in
     let f = number-end _ _ _ c.put_number-end.ensures in
     let q = number-places _ _ _ c.put_number-end.ensures in
     omega arith
@@ -47,10 +47,10 @@ overflow_add-result c =
 pub shape_of-out : goal.shape_of-out
 shape_of-out c =
     let a = c.args in
-    length-set c.put_number-end.new.0 c.put_number-end.result 10
+    length-set c.put_number-end.new.out c.put_number-end.result 10
     ∙ number-places _ _ _ c.put_number-end.ensures
-    ∙ length-set c.put_number-space.new.0 c.put_number-space.result 32
+    ∙ length-set c.put_number-space.new.out c.put_number-space.result 32
     ∙ number-places a.out.now a.at a.number c.put_number-space.ensures
 
 pub returns : goal.returns
-returns c = let a = c.args in line-done a.out.now a.at a.number a.result c.put_number-space.ensures c.put_number-end.ensures
+returns c = let a = c.args in line-done a.out.now a.at a.number a.res c.put_number-space.ensures c.put_number-end.ensures
