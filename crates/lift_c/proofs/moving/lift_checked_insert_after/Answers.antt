@@ -1,0 +1,15 @@
+-- The contract of `lift_c::moving::lift_checked_insert_after`.
+use mathlib.Core.Path.{◌∙◌, ap}
+use Rattle.link.specs.declared.header.Header.{Header}
+use Rattle.sound.specs.Guard.{guarded}
+use Rattle.moves.specs.Moves.{move_node}
+use Rattle.moves.specs.declared.place.Place.TheVariants.{After}
+use Rattle.lift_c.specs.FaceLaws.{packed}
+use Rattle.lift_c.proofs.moving.lift_checked_insert_after.Goals as goal
+
+pub returns : goal.returns
+returns c =
+    let a = c.args in
+    packed
+    (c.checked_insert_after-answer.ensures ∙ ap (λ (h : Header). guarded a.words.now h a.scratch.now (move_node After a.words.now h a.target a.moved)) c.header_of-h.ensures)
+    c.put_header.ensures
