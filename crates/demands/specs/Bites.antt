@@ -97,6 +97,7 @@ node-alone_fails says =
     by (inl w) = w.1.1.0 taken
     by (inr (inl w)) = w.1.0 taken
     by (inr (inr (inl w))) = w.0
+    by (inr (inr (inr x3))) = elim x3 [ ]
 
 -- A set that is answered and not done: get still answers the number of the creation.
 abbrev pub set_ignored : Program
