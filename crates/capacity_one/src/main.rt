@@ -7,14 +7,11 @@ use arena::arena::new_node;
 use link::header::Header;
 use removal::removal::checked_remove;
 use rules::answer::Answer;
+use std::io;
 
 // The number answered and its result.
-fn show(answer: Answer) {
-    io::write_all(1, b" ");
-    io::print_decimal(1, answer.number as u64);
-    io::write_all(1, b" ");
-    io::print_decimal(1, answer.result as u64);
-    io::write_all(1, b"\n");
+fn show(rt: &HostRuntime, answer: Answer) -> io::Result<()> {
+    println!(rt; " {} {}", answer.number, answer.result)
 }
 
 // Makes a node and removes it, so many times, from an empty arena.
@@ -34,20 +31,20 @@ fn make_and_remove(words: &mut [u32], scratch: &mut [u32], times: u32) -> Header
     h
 }
 
-fn main() {
+fn main(rt: HostRuntime) -> io::Result<()> {
     let mut words = [0u32; 7];
     let mut scratch = [0u32; 2];
     let h = make_and_remove(&mut words, &mut scratch, 32767);
-    io::write_all(1, b"creation 32768:");
+    print!(rt; "creation 32768:")?;
     let made = new_node(&mut words, h, &mut scratch, 10);
-    show(made);
-    io::write_all(1, b"its removal:");
+    show(&rt, made)?;
+    print!(rt; "its removal:")?;
     let removed = checked_remove(&mut words, made.header, &mut scratch, made.result);
-    show(removed);
-    io::write_all(1, b"removed again:");
+    show(&rt, removed)?;
+    print!(rt; "removed again:")?;
     let again = checked_remove(&mut words, removed.header, &mut scratch, made.result);
-    show(again);
-    io::write_all(1, b"creation 32769:");
+    show(&rt, again)?;
+    print!(rt; "creation 32769:")?;
     let full = new_node(&mut words, again.header, &mut scratch, 10);
-    show(full);
+    show(&rt, full)
 }

@@ -10,6 +10,8 @@ ghost use Rattle.std.specs.Prelude.{◌<◌, ◌≤◌, length};
 use image::load::load;
 use image::save::save;
 use link::header::Header;
+use std::io;
+use std::io::Print;
 
 fn letter(number: u32) -> u8 {
     if number < 10 {
@@ -21,25 +23,24 @@ fn letter(number: u32) -> u8 {
     63
 }
 
-fn number(n: u32) {
-    io::write_all(1, b" ");
-    io::print_decimal(1, n as u64);
+fn number(rt: &HostRuntime, n: u32) -> io::Result<()> {
+    print!(rt; " {n}")
 }
 
-fn header(h: Header) {
-    number(h.used);
-    number(h.first);
-    number(h.last);
+fn header(rt: &HostRuntime, h: Header) -> io::Result<()> {
+    number(rt, h.used)?;
+    number(rt, h.first)?;
+    number(rt, h.last)
 }
 
 // The words, after a load.
-fn show(words: &[u32]) {
+fn show(rt: &HostRuntime, words: &[u32]) -> io::Result<()> {
     let mut i = 0;
     while i < words.len() {
-        number(words[i]);
+        number(rt, words[i])?;
         i += 1;
     }
-    io::write_all(1, b"\n");
+    println!(rt)
 }
 
 // Whether the first bytes of `out` are those of an image.
@@ -58,22 +59,28 @@ fn same(image: &[u8], out: &[u8]) -> bool {
 }
 
 // The image as it is: what load answers and leaves, and what save then answers and writes.
-fn whole(image: &[u8], words: &mut [u32], scratch: &mut [u32], out: &mut [u8]) {
-    io::write_all(1, b"loaded");
+fn whole(
+    rt: &HostRuntime,
+    image: &[u8],
+    words: &mut [u32],
+    scratch: &mut [u32],
+    out: &mut [u8],
+) -> io::Result<()> {
+    print!(rt; "loaded")?;
     let a = load(image, words, scratch);
     let h = a.header;
-    number(a.number);
-    header(h);
-    io::write_all(1, b"\nwords");
-    show(words);
+    number(rt, a.number)?;
+    header(rt, h)?;
+    print!(rt; "\nwords")?;
+    show(rt, words)?;
     let r = save(words, h, scratch, out);
-    io::write_all(1, b"saved");
-    number(r.number);
-    number(r.result);
+    print!(rt; "saved")?;
+    number(rt, r.number)?;
+    number(rt, r.result)?;
     if same(image, out) {
-        io::write_all(1, b" the same bytes\n");
+        println!(rt; " the same bytes")
     } else {
-        io::write_all(1, b" other bytes\n");
+        println!(rt; " other bytes")
     }
 }
 
@@ -86,14 +93,19 @@ fn of_length(copy: &[u8], n: usize, words: &mut [u32], scratch: &mut [u32]) -> u
 }
 
 // Every length from 0 to that of the bytes lent.
-fn lengths(copy: &[u8], words: &mut [u32], scratch: &mut [u32]) {
-    io::write_all(1, b"lengths");
+fn lengths(
+    rt: &HostRuntime,
+    copy: &[u8],
+    words: &mut [u32],
+    scratch: &mut [u32],
+) -> io::Result<()> {
+    print!(rt; "lengths")?;
     let mut n = 0;
     while n <= copy.len() {
-        number(of_length(copy, n, words, scratch));
+        number(rt, of_length(copy, n, words, scratch))?;
         n += 1;
     }
-    io::write_all(1, b"\n");
+    println!(rt)
 }
 
 // The number for a destination of n words.
@@ -105,14 +117,19 @@ fn into(image: &[u8], words: &mut [u32], n: usize, scratch: &mut [u32]) -> u32 {
 }
 
 // Destinations of 0 to all the words lent.
-fn destinations(image: &[u8], words: &mut [u32], scratch: &mut [u32]) {
-    io::write_all(1, b"destinations");
+fn destinations(
+    rt: &HostRuntime,
+    image: &[u8],
+    words: &mut [u32],
+    scratch: &mut [u32],
+) -> io::Result<()> {
+    print!(rt; "destinations")?;
     let mut n = 0;
     while n <= words.len() {
-        number(into(image, words, n, scratch));
+        number(rt, into(image, words, n, scratch))?;
         n += 1;
     }
-    io::write_all(1, b"\n");
+    println!(rt)
 }
 
 // The number for a scratch of n words.
@@ -124,14 +141,19 @@ fn with(image: &[u8], words: &mut [u32], scratch: &mut [u32], n: usize) -> u32 {
 }
 
 // Scratches of 0 to all the words lent.
-fn scratches(image: &[u8], words: &mut [u32], scratch: &mut [u32]) {
-    io::write_all(1, b"scratches");
+fn scratches(
+    rt: &HostRuntime,
+    image: &[u8],
+    words: &mut [u32],
+    scratch: &mut [u32],
+) -> io::Result<()> {
+    print!(rt; "scratches")?;
     let mut n = 0;
     while n <= scratch.len() {
-        number(with(image, words, scratch, n));
+        number(rt, with(image, words, scratch, n))?;
         n += 1;
     }
-    io::write_all(1, b"\n");
+    println!(rt)
 }
 
 // One byte at each of its 256 values, a letter for each.
@@ -150,49 +172,62 @@ fn each_value(copy: &mut [u8], at: usize, words: &mut [u32], scratch: &mut [u32]
 }
 
 // The same, written as a line.
-fn one_byte(copy: &mut [u8], at: usize, words: &mut [u32], scratch: &mut [u32])
+fn one_byte(
+    rt: &HostRuntime,
+    copy: &mut [u8],
+    at: usize,
+    words: &mut [u32],
+    scratch: &mut [u32],
+) -> io::Result<()>
     requires { (at < length copy.old) × (at < 65536) }
 {
     let mut line = [0u8; 256];
     each_value(copy, at, words, scratch, &mut line);
-    io::write_all(1, b"byte");
-    number(at as u32);
-    io::write_all(1, b" ");
-    io::write_all(1, &line);
-    io::write_all(1, b"\n");
+    print!(rt; "byte")?;
+    number(rt, at as u32)?;
+    print!(rt; " ")?;
+    rt.write_all(&line)?;
+    println!(rt)
 }
 
-fn each_byte(copy: &mut [u8], words: &mut [u32], scratch: &mut [u32])
+fn each_byte(
+    rt: &HostRuntime,
+    copy: &mut [u8],
+    words: &mut [u32],
+    scratch: &mut [u32],
+) -> io::Result<()>
     requires { length copy.old < 65536 }
 {
     let mut at = 0;
     while at < copy.len() {
-        one_byte(copy, at, words, scratch);
+        one_byte(rt, copy, at, words, scratch)?;
         at += 1;
     }
+    Ok(())
 }
 
-fn report(good: &[u8])
+fn report(rt: &HostRuntime, good: &[u8]) -> io::Result<()>
     requires { length good.now ≤ 158 }
 {
     let mut copy = [0u8; 160];
     let mut words = [0u32; 42];
     let mut scratch = [0u32; 12];
     let mut out = [0u8; 160];
-    let n = bytes::copy(good, &mut copy);
+    let n = good.len();
+    copy[..n].copy_from_slice(good);
     let longest = n + 2;
-    io::write_all(1, b"image of");
-    number(n as u32);
-    io::write_all(1, b" bytes\n");
-    whole(good, &mut words, &mut scratch, &mut out);
-    destinations(good, &mut words, &mut scratch);
-    scratches(good, &mut words, &mut scratch);
-    lengths(&copy[..longest], &mut words, &mut scratch);
-    each_byte(&mut copy[..n], &mut words, &mut scratch);
+    print!(rt; "image of")?;
+    number(rt, n as u32)?;
+    println!(rt; " bytes")?;
+    whole(rt, good, &mut words, &mut scratch, &mut out)?;
+    destinations(rt, good, &mut words, &mut scratch)?;
+    scratches(rt, good, &mut words, &mut scratch)?;
+    lengths(rt, &copy[..longest], &mut words, &mut scratch)?;
+    each_byte(rt, &mut copy[..n], &mut words, &mut scratch)
 }
 
-fn main() {
-    report(&images::EMPTY);
-    report(&images::P2);
-    report(&images::SPENT);
+fn main(rt: HostRuntime) -> io::Result<()> {
+    report(&rt, &images::EMPTY)?;
+    report(&rt, &images::P2)?;
+    report(&rt, &images::SPENT)
 }

@@ -6,48 +6,48 @@
 use link::id::{Stamp, found, id_of};
 use link::relations::insert_last_unchecked;
 use link::words::{Slot, link_of, set_link};
+use std::io;
 
-fn number(n: u32) {
-    io::write_all(1, b" ");
-    io::print_decimal(1, n as u64);
+fn number(rt: &HostRuntime, n: u32) -> io::Result<()> {
+    print!(rt; " {n}")
 }
 
 // The seven words of the slot that an identifier names.
-fn slot(words: &[u32], id: u32) {
-    number(link_of(words, id, Slot::STAMP));
-    number(link_of(words, id, Slot::NUMBER));
-    number(link_of(words, id, Slot::PARENT));
-    number(link_of(words, id, Slot::PREVIOUS));
-    number(link_of(words, id, Slot::NEXT));
-    number(link_of(words, id, Slot::FIRST));
-    number(link_of(words, id, Slot::LAST));
-    io::write_all(1, b"\n");
+fn slot(rt: &HostRuntime, words: &[u32], id: u32) -> io::Result<()> {
+    number(rt, link_of(words, id, Slot::STAMP))?;
+    number(rt, link_of(words, id, Slot::NUMBER))?;
+    number(rt, link_of(words, id, Slot::PARENT))?;
+    number(rt, link_of(words, id, Slot::PREVIOUS))?;
+    number(rt, link_of(words, id, Slot::NEXT))?;
+    number(rt, link_of(words, id, Slot::FIRST))?;
+    number(rt, link_of(words, id, Slot::LAST))?;
+    println!(rt)
 }
 
-fn answer(yes: bool) {
+fn answer(rt: &HostRuntime, yes: bool) -> io::Result<()> {
     if yes {
-        io::write_all(1, b" yes\n");
+        println!(rt; " yes")
     } else {
-        io::write_all(1, b" no\n");
+        println!(rt; " no")
     }
 }
 
 // The 16 bits of a stamp when handed out, once removed, and when the slot is handed out again.
-fn stamps() {
-    io::write_all(1, b"stamp, removed, reused:");
+fn stamps(rt: &HostRuntime) -> io::Result<()> {
+    print!(rt; "stamp, removed, reused:")?;
     let handed_out = Stamp::fresh();
     let removed = Stamp(-1);
-    number(handed_out.bits());
-    number(handed_out.removed().bits());
-    number(removed.reuse().bits());
-    io::write_all(1, b"\nthe last stamp, removed, is spent:");
+    number(rt, handed_out.bits())?;
+    number(rt, handed_out.removed().bits())?;
+    number(rt, removed.reuse().bits())?;
+    print!(rt; "\nthe last stamp, removed, is spent:")?;
     let spent = Stamp(Stamp::LAST).removed();
-    number(spent.bits());
-    answer(spent.is_spent());
+    number(rt, spent.bits())?;
+    answer(rt, spent.is_spent())
 }
 
-fn main() {
-    stamps();
+fn main(rt: HostRuntime) -> io::Result<()> {
+    stamps(&rt)?;
     let mut words = [0u32; 21];
     let car = id_of(1, 0);
     let first = id_of(2, 0);
@@ -57,14 +57,14 @@ fn main() {
     set_link(&mut words, second, Slot::NUMBER, 30);
     insert_last_unchecked(&mut words, first, car, 4);
     insert_last_unchecked(&mut words, second, car, 4);
-    io::write_all(1, b"car:");
-    slot(&words, car);
-    io::write_all(1, b"first call:");
-    slot(&words, first);
-    io::write_all(1, b"second call:");
-    slot(&words, second);
-    io::write_all(1, b"131072 is found:");
-    answer(found(&words, 3, 131072));
-    io::write_all(1, b"131073, a later stamp of that slot, is found:");
-    answer(found(&words, 3, 131073));
+    print!(rt; "car:")?;
+    slot(&rt, &words, car)?;
+    print!(rt; "first call:")?;
+    slot(&rt, &words, first)?;
+    print!(rt; "second call:")?;
+    slot(&rt, &words, second)?;
+    print!(rt; "131072 is found:")?;
+    answer(&rt, found(&words, 3, 131072))?;
+    print!(rt; "131073, a later stamp of that slot, is found:")?;
+    answer(&rt, found(&words, 3, 131073))
 }

@@ -8,42 +8,41 @@
 
 mod text;
 
-ghost use Rattle.std.specs.Prelude.{◌<◌, ◌≤◌, length};
+ghost use Rattle.std.specs.Prelude.{◌<◌, ◌≤◌, IfOk, length};
 
 use crate::text::{line_end, numbers_of};
 use link::header::Header;
 use sound::{guard, validate};
+use std::io;
+use std::io::{Print, Read};
 
 // The validator's number and result, and the scratch.
-fn validated(words: &[u32], h: Header, scratch: &mut [u32]) {
+fn validated(rt: &HostRuntime, words: &[u32], h: Header, scratch: &mut [u32]) -> io::Result<()> {
     fill(scratch);
     let answer = validate(words, h, scratch);
-    io::print_decimal(1, answer.number as u64);
-    io::write_all(1, b" ");
-    io::print_decimal(1, answer.result as u64);
-    report(scratch, h.used);
+    print!(rt; "{} {}", answer.number, answer.result)?;
+    report(rt, scratch, h.used)
 }
 
 // The guard's number, and the scratch.
-fn guarded(words: &[u32], h: Header, scratch: &mut [u32]) {
+fn guarded(rt: &HostRuntime, words: &[u32], h: Header, scratch: &mut [u32]) -> io::Result<()> {
     fill(scratch);
-    io::write_all(1, b" ");
-    io::print_decimal(1, guard(words, h, scratch) as u64);
-    report(scratch, h.used);
-    io::write_all(1, b"\n");
+    let number = guard(words, h, scratch);
+    print!(rt; " {number}")?;
+    report(rt, scratch, h.used)?;
+    println!(rt)
 }
 
 // The line of answers.
-fn answers(words: &[u32], h: Header, scratch: &mut [u32]) {
-    validated(words, h, scratch);
-    guarded(words, h, scratch);
+fn answers(rt: &HostRuntime, words: &[u32], h: Header, scratch: &mut [u32]) -> io::Result<()> {
+    validated(rt, words, h, scratch)?;
+    guarded(rt, words, h, scratch)
 }
 
 // One memory: the numbers of its line, and room for scratch.
-fn memory(numbers: &[u32], room: &mut [u32]) {
+fn memory(rt: &HostRuntime, numbers: &[u32], room: &mut [u32]) -> io::Result<()> {
     if numbers.len() < 4 {
-        io::write_all(1, b"no memory\n");
-        return;
+        return println!(rt; "no memory");
     }
     let h = Header {
         used: numbers[0],
@@ -52,10 +51,9 @@ fn memory(numbers: &[u32], room: &mut [u32]) {
     };
     let lent = as_length(numbers[3]);
     if room.len() < lent {
-        io::write_all(1, b"no room\n");
-        return;
+        return println!(rt; "no room");
     }
-    answers(&numbers[4..], h, &mut room[..lent]);
+    answers(rt, &numbers[4..], h, &mut room[..lent])
 }
 
 fn as_length(n: u32) -> usize {
@@ -63,40 +61,56 @@ fn as_length(n: u32) -> usize {
 }
 
 // The line of a memory.
-fn memory_line(line: &[u8]) {
+fn memory_line(rt: &HostRuntime, line: &[u8]) -> io::Result<()> {
     let mut numbers = [0u32; 128];
     let mut room = [0u32; 64];
     let count = numbers_of(line, &mut numbers);
-    memory(&numbers[..count], &mut room);
+    memory(rt, &numbers[..count], &mut room)
 }
 
 // The line that starts at a place; answers the start of the next.
-fn line(text: &[u8], at: usize) -> usize
+fn line(rt: &HostRuntime, text: &[u8], at: usize) -> io::Result<usize>
     requires { at < length text.now }
-    ensures { at < result }
+    ensures { IfOk result (λ next. at < next) }
 {
     let end = line_end(text, at);
     if text[at] == b'#' {
-        io::write_all(1, &text[at..end]);
-        io::write_all(1, b"\n");
+        rt.write_all(&text[at..end])?;
+        println!(rt)?;
     } else {
-        memory_line(&text[at..end]);
+        memory_line(rt, &text[at..end])?;
     }
-    end + 1
+    Ok(end + 1)
 }
 
 // Every line.
-fn lines(text: &[u8]) {
+fn lines(rt: &HostRuntime, text: &[u8]) -> io::Result<()> {
     let mut at = 0;
     while at < text.len() {
-        at = line(text, at);
+        at = line(rt, text, at)?;
     }
+    Ok(())
 }
 
-fn main() {
+// Reads until the bytes are full or the input ends; answers how many it put at the start.
+fn read_full(rt: &HostRuntime, bytes: &mut [u8]) -> io::Result<usize>
+    ensures { IfOk result (λ n. n ≤ length bytes.new) }
+{
+    let mut done = 0;
+    while done < bytes.len() {
+        let n = rt.stdin().read(&mut bytes[done..])?;
+        if n == 0 {
+            break;
+        }
+        done += n;
+    }
+    Ok(done)
+}
+
+fn main(rt: HostRuntime) -> io::Result<()> {
     let mut text = [0u8; 131072];
-    let n = io::read_full(0, &mut text);
-    lines(&text[..n]);
+    let n = read_full(&rt, &mut text)?;
+    lines(&rt, &text[..n])
 }
 
 // What stands in every scratch word before a call.
@@ -135,12 +149,12 @@ fn zeroed(scratch: &[u32], n: usize) -> bool {
 }
 
 // Writes what became of the scratch.
-fn report(scratch: &[u32], used: u32) {
+fn report(rt: &HostRuntime, scratch: &[u32], used: u32) -> io::Result<()> {
     if all_are(scratch, 0, scratch.len(), BEFORE) {
-        io::write_all(1, b" kept");
+        print!(rt; " kept")
     } else if zeroed(scratch, 2 * (used as usize)) {
-        io::write_all(1, b" zero");
+        print!(rt; " zero")
     } else {
-        io::write_all(1, b" other");
+        print!(rt; " other")
     }
 }
