@@ -6,11 +6,11 @@ ghost use Rattle.command.specs.Known.{Knows};
 use crate::turn::take_turn;
 use arena::arena::clear;
 use command::known::{Known, fresh};
-use libc::{STDIN_FILENO, STDOUT_FILENO};
 use link::header::Header;
+use std::io::{Error, Print, Read as _};
 
 // Whether to go on; the header, what is known of the memory, and how many bytes of a command have come.
-#[derive(Drop)]
+#[derive(Clone, Copy)]
 struct State {
     going: bool,
     header: Header,
@@ -19,47 +19,58 @@ struct State {
 }
 
 // How many bytes a read brought, none at the end of the input; and whether it failed.
-#[derive(Drop)]
+#[derive(Clone, Copy)]
 struct Read {
     failed: bool,
     came: usize,
 }
 
+// What failed, told on standard error.
+fn tell(rt: &HostRuntime, what: &str, error: Error) {
+    let _ = eprintln!(rt; "{what}: {error}");
+}
+
 // One read, after the bytes that are kept.
-fn receive(bytes: &mut [u8], kept: usize) -> Read
+fn receive(rt: &HostRuntime, bytes: &mut [u8], kept: usize) -> Read
     requires { kept ≤ length bytes.old }
     ensures { kept + result.came ≤ length bytes.old }
 {
-    let room = bytes.len() - kept;
-    let got = libc::read(STDIN_FILENO, &mut bytes[kept..]);
-    let failed = got < 0;
-    let came = io::count(got, bytes);
-    if room < came {
-        return Read { failed, came: room };
+    match rt.stdin().read(&mut bytes[kept..]) {
+        Ok(came) => Read {
+            failed: false,
+            came,
+        },
+        Err(error) => {
+            tell(rt, "lift: standard input", error);
+            Read {
+                failed: true,
+                came: 0,
+            }
+        }
     }
-    Read { failed, came }
 }
 
 // The first bytes of the text, written out; whether all of them were.
-fn send(text: &[u8]) -> bool {
-    let sent = io::write_all(STDOUT_FILENO, text);
-    if !sent {
-        os::fail(b"lift: standard output");
+fn send(rt: &HostRuntime, text: &[u8]) -> bool {
+    match rt.write_all(text) {
+        Ok(()) => true,
+        Err(error) => {
+            tell(rt, "lift: standard output", error);
+            false
+        }
     }
-    sent
 }
 
 // At the end of the input, or where it failed: a cut-off command is answered PART.
-fn finish(failed: bool, kept: usize) {
-    if failed {
-        os::fail(b"lift: standard input");
-    } else if kept > 0 {
-        send(b"10 0\n");
+fn finish(rt: &HostRuntime, failed: bool, kept: usize) {
+    if !failed && kept > 0 {
+        send(rt, b"10 0\n");
     }
 }
 
 // One read, the commands that are whole then, and one write.
 fn exchange(
+    rt: &HostRuntime,
     words: &mut [u32],
     scratch: &mut [u32],
     bytes: &mut [u8],
@@ -73,9 +84,9 @@ fn exchange(
     let kept = state.kept;
     let header = state.header;
     let known = state.known;
-    let read = receive(bytes, kept);
+    let read = receive(rt, bytes, kept);
     if read.came == 0 {
-        finish(read.failed, kept);
+        finish(rt, read.failed, kept);
         return State {
             going: false,
             header,
@@ -94,7 +105,7 @@ fn exchange(
         out,
     );
     let text = turn.text;
-    let going = send(&out[..text]);
+    let going = send(rt, &out[..text]);
     let header = turn.header;
     let known = turn.known;
     State {
@@ -106,7 +117,14 @@ fn exchange(
 }
 
 // Until the input ends; a proved loop has to end, and the turns are more than any run takes.
-fn run(words: &mut [u32], scratch: &mut [u32], bytes: &mut [u8], list: &mut [u32], out: &mut [u8])
+fn run(
+    rt: &HostRuntime,
+    words: &mut [u32],
+    scratch: &mut [u32],
+    bytes: &mut [u8],
+    list: &mut [u32],
+    out: &mut [u8],
+)
     requires { (length bytes.old ≡ 49152) × (length list.old ≡ 8192) × (length out.old ≡ 90112) }
 {
     let start = clear();
@@ -120,17 +138,24 @@ fn run(words: &mut [u32], scratch: &mut [u32], bytes: &mut [u8], list: &mut [u32
     };
     let mut turns = u64::MAX;
     while turns > 0 && state.going {
-        state = exchange(words, scratch, bytes, list, out, state);
+        state = exchange(rt, words, scratch, bytes, list, out, state);
         turns -= 1;
     }
 }
 
 // The whole of the program `lift`.
-pub fn serve() {
+pub fn serve(rt: &HostRuntime) {
     let mut words = [0u32; 14336];
     let mut scratch = [0u32; 4096];
     let mut bytes = [0u8; 49152];
     let mut list = [0u32; 8192];
     let mut out = [0u8; 90112];
-    run(&mut words, &mut scratch, &mut bytes, &mut list, &mut out);
+    run(
+        rt,
+        &mut words,
+        &mut scratch,
+        &mut bytes,
+        &mut list,
+        &mut out,
+    );
 }

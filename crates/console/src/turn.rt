@@ -12,7 +12,7 @@ use lines::lines::put_lines;
 use link::header::Header;
 
 // The header and what is known then, how many bytes of text there are, and how many bytes are left.
-#[derive(Drop)]
+#[derive(Clone, Copy)]
 pub struct Turn {
     pub header: Header,
     pub known: Known,

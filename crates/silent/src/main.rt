@@ -2,6 +2,6 @@
 
 #![tactic(auto)]
 
-fn main() {
-    console::serve::serve();
+fn main(rt: HostRuntime) {
+    console::serve::serve(&rt);
 }
