@@ -61,7 +61,7 @@ fn send(rt: &HostRuntime, text: &[u8]) -> bool {
     }
 }
 
-// At the end of the input, or where it failed: a cut-off command is answered PART.
+// At the end of the input a cut-off command is answered PART; after a read that failed nothing is.
 fn finish(rt: &HostRuntime, failed: bool, kept: usize) {
     if !failed && kept > 0 {
         send(rt, b"10 0\n");
