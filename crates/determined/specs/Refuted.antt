@@ -1,5 +1,5 @@
 -- Statements that do not determine an outcome, and are caught: one that is silent, and one that says how long what is left is and no more.
-use Rattle.std.specs.Prelude.{◌≡◌, refl, List, [], ◌∷◌, ℕ, length, get_or}
+use Rattle.std.specs.Prelude.{◌≡◌, refl, [], ◌∷◌, ℕ, length, get_or}
 use Rattle.std.proofs.Common.{ap, arith}
 use contract.Lifetimes.{Lfts}
 use borrow.Fn.Kinds.{Dens}
