@@ -138,10 +138,12 @@ answer_in n (inr (inr (inr (inr (inr (inl e)))))) = inr (inr (inr (inr (inr (inl
 answer_in n (inr (inr (inr (inr (inr (inr (inl e))))))) = inr (inr (inr (inr (inr (inr (inl e))))))
 answer_in n (inr (inr (inr (inr (inr (inr (inr (inl e)))))))) = inr (inr (inr (inr (inr (inr (inr (inl e)))))))
 answer_in n (inr (inr (inr (inr (inr (inr (inr (inr (inl e))))))))) = inr (inr (inr (inr (inr (inr (inr (inr (inl e))))))))
+answer_in n (inr (inr (inr (inr (inr (inr (inr (inr (inr x9))))))))) = elim x9 [ ]
 
 pairs-then : (xs ys : List ℕ) → Pairs Tabled xs → Pairs Tabled ys → Pairs Tabled (xs ++ ys)
 pairs-then [] ys p q = q
 pairs-then (n ∷ r ∷ xs) ys p q = (p.0, pairs-then xs ys p.1 q)
+pairs-then (n ∷ []) ys p q = elim p [ ]
 
 performed_pairs : (n : ℕ) (trace : List ℕ) (at : ℕ) (w : Memory) → Pairs Tabled (performed n trace at w.words w.header w.scratch).answers
 unfolding performed

@@ -35,7 +35,6 @@ use Rattle.lists.specs.Levels.{level_order}
 use Rattle.lists.specs.Listing.{counted}
 use Rattle.lists.specs.declared.order.Order.{Order}
 use Rattle.lists.specs.declared.order.Order.TheVariants.{Descendants, Leaves, Ancestors, Children, FollowingSiblings, PrecedingSiblings, Predecessors}
-use Rattle.subtree.specs.Compare.{compared}
 use Rattle.walks.specs.Orders.{leaves, size, numbered, reversed}
 use Rattle.walks.specs.Trails.{divided, sum, trail-takes}
 use Rattle.walks.specs.Stepped.{tree_of, edges_of, walk-trail, walk-yields, walk_ends}

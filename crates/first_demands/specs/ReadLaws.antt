@@ -4,7 +4,7 @@ use Rattle.std.proofs.Math.Path.{refl}
 use Rattle.std.proofs.Common.{ap, ◌∙◌, arith}
 use Rattle.std.proofs.Math.ListN.{length}
 use borrow.Author.Tests.{eq-eqb, le-ltb}
-use Rattle.link.specs.Words.{NUMBER, capacity_of, link, set_link}
+use Rattle.link.specs.Words.{NUMBER, capacity_of, link}
 use Rattle.link.specs.Found.{Found}
 use Rattle.link.specs.FoundLaws.{is_found}
 use Rattle.link.specs.declared.header.Header.{Header}

@@ -25,7 +25,7 @@ use Rattle.command.specs.declared.call.Change.{Change}
 use Rattle.command.specs.declared.call.Change.TheVariants.{New}
 use Rattle.batch.specs.Trace.{command_at, answers_of}
 use Rattle.batch.specs.Batch.{batched}
-use Rattle.history.specs.Calls.{Memory, memory, change, set, read, validate, walk, Told, answers, replies, counts, starts, walks, writes, number_of, result_of}
+use Rattle.history.specs.Calls.{Memory, memory, change, set, read, validate, Told, answers, replies, counts, starts, walks, writes, number_of, result_of}
 use Rattle.first_demands.specs.Every.{Every, one, clear, load, command, batch, done, Program}
 use Rattle.first_demands.specs.Refusals.{Answers, RefusalKeeps, ScratchHolds}
 use Rattle.first_demands.specs.Statements.{Works, DoneExactly, ChangesRightly, ValidatorExact, WalkYields, BatchDoes}
@@ -150,6 +150,7 @@ fourteen_fails says = by (says clear none)
   where
     by : In 14 (DONE ∷ []) → ⊥
     by (inl e) = let z : ◌≡◌ {A = ℕ} 14 0 = e in omega arith
+    by (mathlib.Core.Logic.inr x') = elim x' [ ]
 
 -- A call that writes before it tests: a refused set leaves its number.
 abbrev pub writes_first : Program
