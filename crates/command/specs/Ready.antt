@@ -19,11 +19,11 @@ use Rattle.sound.specs.GuardLaws.{capacity-fits}
 use Rattle.arena.specs.Reads.{set_number}
 use Rattle.keeps.specs.New.{new-length, new-fits, new-ready}
 use Rattle.keeps.specs.Set.{set-sound, set-ready}
-use Rattle.keeps_moves.specs.Move.{moved_ready, moved-header, moved_length}
-use Rattle.keeps_moves.specs.Value.{value_ready, value-length, value-fits}
-use Rattle.keeps_moves.specs.Detach.{detached-ready, detached-header, detached-length, children-stay-ready, children-header, children-length}
+use Rattle.keeps_moves.proofs.Move.{moved_ready, moved-header, moved_length}
+use Rattle.keeps_moves.proofs.Value.{value_ready, value-length, value-fits}
+use Rattle.keeps_moves.proofs.Detach.{detached-ready, detached-header, detached-length, children-stay-ready, children-header, children-length}
 use Rattle.removed.specs.Gone.{Removes}
-use Rattle.removed.specs.Calls.{node-goes, subtree-goes, children-go, node-refused, subtree-refused, children-refused}
+use Rattle.removed.proofs.Calls.{node-goes, subtree-goes, children-go, node-refused, subtree-refused, children-refused}
 use Rattle.command.specs.declared.call.Change.{Change}
 use Rattle.command.specs.declared.call.Change.TheVariants.{New, Move, Detach, DetachChildren, Remove, RemoveSubtree, RemoveChildren, Value}
 use Rattle.command.specs.Commands.{changed}

@@ -19,19 +19,25 @@ use Rattle.exact.specs.FirstPass.{Kinds, first-pass}
 use Rattle.exact.specs.Climbs.{no_cycle}
 use Rattle.exact.specs.Chain.{chain-sound, chain-ready}
 
+-- The two halves of `links-sound`.
+module _ (m : List ℕ) (used : ℕ) where
+  links-to : links_ok m used ≡ true → Kinds m used × SoundLinks (view m) (Found m used)
+  unfolding links_ok
+  links-to e =
+      let (a, b) = (and-eq-true_iff (all_pass used m used 1) _).0 e in
+      let (K, T) = (first-pass m used).0 a in
+      (K, tests-sound (view m) (Found m used) (found-nodes m used) T ((no_cycle m used K T).0 b))
+
+  links-from : Kinds m used × SoundLinks (view m) (Found m used) → links_ok m used ≡ true
+  unfolding links_ok
+  links-from (K, S) =
+      let T = sound-tests (view m) (Found m used) (found-nodes m used) S in
+      (and-eq-true_iff (all_pass used m used 1) _).1 ((first-pass m used).1 (K, T), (no_cycle m used K T).1 (sound-ends (view m) (Found m used) (found-nodes m used) S))
+
 -- The two passes over links say yes exactly when every live slot has kind 0 and the links of live nodes are sound:
 -- the tests of each node are those of `Local`, and climbing ends exactly when predecessors do.
 pub links-sound : (m : List ℕ) (used : ℕ) → (links_ok m used ≡ true) ↔ (Kinds m used × SoundLinks (view m) (Found m used))
-unfolding links_ok
-links-sound m used = (
-  λ e.
-      let (a, b) = (and-eq-true_iff (all_pass used m used 1) _).0 e in
-      let (K, T) = (first-pass m used).0 a in
-      (K, tests-sound (view m) (Found m used) (found-nodes m used) T ((no_cycle m used K T).0 b)),
-  λ (K, S).
-      let T = sound-tests (view m) (Found m used) (found-nodes m used) S in
-      (and-eq-true_iff (all_pass used m used 1) _).1 ((first-pass m used).1 (K, T), (no_cycle m used K T).1 (sound-ends (view m) (Found m used) (found-nodes m used) S)),
-)
+links-sound m used = (links-to m used, links-from m used)
 
 module _ (m : List ℕ) (h : Header) where
   abbrev last-pass : Verdict
@@ -45,15 +51,19 @@ module _ (m : List ℕ) (h : Header) where
       go true = (λ e. (refl, e), λ w. w.1)
       go false = (λ e. absurd (false≢true (sym n ∙ e)), λ w. absurd (false≢true w.0))
 
+  -- One half of `examined-sound`.
+  sound-to : sound_b (examined m h) ≡ true → Sound m h
+  sound-to e =
+      let (a, b) = (by-passes sound_b refl).0 e in
+      let (K, S) = links-to m h.used a in
+      record { kind = K; links = S; free = (chain-sound m h.used h.last h.first).0 b }
+
   -- The examination answers Ready or Spent exactly when memory is sound, over any words, of which those past the end are 0.
   -- Excluded: a sound memory that is refused; two nodes that are each other's next, accepted.
   pub examined-sound : (sound_b (examined m h) ≡ true) ↔ Sound m h
   examined-sound = (
-    λ e.
-        let (a, b) = (by-passes sound_b refl).0 e in
-        let (K, S) = (links-sound m h.used).0 a in
-        record { kind = K; links = S; free = (chain-sound m h.used h.last h.first).0 b },
-    λ S. (by-passes sound_b refl).1 ((links-sound m h.used).1 (S.kind, S.links), (chain-sound m h.used h.last h.first).1 S.free),
+    sound-to,
+    λ S. (by-passes sound_b refl).1 (links-from m h.used (S.kind, S.links), (chain-sound m h.used h.last h.first).1 S.free),
   )
 
   -- It answers Ready exactly when memory is ready.
@@ -61,9 +71,9 @@ module _ (m : List ℕ) (h : Header) where
   pub examined-ready : (ready_b (examined m h) ≡ true) ↔ Ready m h
   examined-ready = (
     λ e.
-        let S = examined-sound.0 (ready-sound (examined m h) e) in
+        let S = sound-to (ready-sound (examined m h) e) in
         record { sound = S; unspent = (chain-ready m h.used h.last h.first S.free).0 ((by-passes ready_b refl).0 e).1 },
     λ R.
         let S = R.sound in
-        (by-passes ready_b refl).1 ((links-sound m h.used).1 (S.kind, S.links), (chain-ready m h.used h.last h.first S.free).1 R.unspent),
+        (by-passes ready_b refl).1 (links-from m h.used (S.kind, S.links), (chain-ready m h.used h.last h.first S.free).1 R.unspent),
   )

@@ -24,7 +24,7 @@ use Rattle.keeps.specs.Set.{set-forest}
 use Rattle.keeps.specs.Census.{census_adds}
 use Rattle.removal.specs.Remove.{remove_node, remove_subtree, remove_children}
 use Rattle.removed.specs.Gone.{Removes}
-use Rattle.removed.specs.Calls.{node-goes, subtree-goes, children-go}
+use Rattle.removed.proofs.Calls.{node-goes, subtree-goes, children-go}
 use Rattle.walk.specs.Written.{written}
 use Rattle.walk.specs.Walks.{codes}
 use Rattle.walk.specs.declared.edge.Edge.{Edge}

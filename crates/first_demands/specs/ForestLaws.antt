@@ -25,10 +25,11 @@ use Rattle.moves.specs.Detach.{name_no, detach, detach_children, detach_node, de
 use Rattle.removal.specs.Remove.{removal_no, when_found, removed, descendants_removed, subtree_removed, remove_node, remove_subtree, remove_children}
 use Rattle.keeps.specs.New.{new-number, new-refused, new-ready, new-forest}
 use Rattle.keeps_moves.specs.Rule.{MakesAt}
-use Rattle.keeps_moves.specs.Move.{move-done_exact, move-rule, moved-forest, moved_ready, moved-header}
-use Rattle.keeps_moves.specs.Value.{value-done_exact, value-rule, value_is-move, value-forest, value_ready}
-use Rattle.keeps_moves.specs.Detach.{name-done_exact, detached-forest, detached-ready, detached-header, children-rule, children-forest, children-stay-ready, children-header}
-use Rattle.removed.specs.Calls.{node-goes, children-take_its-place, subtree-goes, chain_closes, children-go, node_stays}
+use Rattle.keeps_moves.specs.Move.{move-done_exact}
+use Rattle.keeps_moves.proofs.Move.{move-rule, moved-forest, moved_ready, moved-header}
+use Rattle.keeps_moves.proofs.Value.{value-done_exact, value-rule, value_is-move, value-forest, value_ready}
+use Rattle.keeps_moves.proofs.Detach.{name-done_exact, detached-forest, detached-ready, detached-header, children-rule, children-forest, children-stay-ready, children-header}
+use Rattle.removed.proofs.Calls.{node-goes, children-take_its-place, subtree-goes, chain_closes, children-go, node_stays}
 use Rattle.command.specs.Commands.{changed}
 use Rattle.command.specs.declared.call.Change.{Change}
 use Rattle.command.specs.declared.call.Change.TheVariants.{New, Move, Detach, DetachChildren, Remove, RemoveSubtree, RemoveChildren, Value}

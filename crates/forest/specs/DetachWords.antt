@@ -4,7 +4,7 @@ use Rattle.std.specs.Prelude.{◌≡◌, List, [], ◌∷◌, ◌++◌, ℕ, ◌
 use Rattle.std.proofs.Common.{arith}
 use Rattle.link.specs.Words.{width, PARENT}
 use Rattle.link.specs.Found.{Found}
-use Rattle.link.specs.OnlyLaws.{only-link, only_then, only-detach}
+use Rattle.link.proofs.OnlyLaws.{only-link, only_then, only-detach}
 use Rattle.link.specs.declared.header.Header.{Header}
 use Rattle.rules.specs.Links.{view}
 use Rattle.rules.specs.Sound.{SoundLinks, Sound, Ready}

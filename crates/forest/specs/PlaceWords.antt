@@ -4,7 +4,7 @@ use Rattle.std.specs.Prelude.{◌≡◌, refl, ◌≢◌, List, [], ◌∷◌, �
 use Rattle.std.proofs.Common.{inl, arith}
 use Rattle.link.specs.Words.{width, PARENT}
 use Rattle.link.specs.Found.{Found}
-use Rattle.link.specs.OnlyLaws.{only-link, only_then, only-connect}
+use Rattle.link.proofs.OnlyLaws.{only-link, only_then, only-connect}
 use Rattle.link.specs.declared.header.Header.{Header}
 use Rattle.rules.specs.Lists.{head_or, last_or}
 use Rattle.rules.specs.Links.{par, View, view}

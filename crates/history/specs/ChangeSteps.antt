@@ -26,11 +26,11 @@ use Rattle.arena.specs.FreeListLaws.{pop-some}
 use Rattle.keeps.specs.New.{new-refused, new-created, new-stamp, new-times}
 use Rattle.moves.specs.Values.{value_no, value_node}
 use Rattle.moves.specs.declared.place.Place.{Place}
-use Rattle.keeps_moves.specs.Move.{moved-header, moved-kept}
-use Rattle.keeps_moves.specs.Value.{value-done_exact, value_is-move, value-kept}
-use Rattle.keeps_moves.specs.Detach.{detached-header, detached-kept, children-header, children-kept}
+use Rattle.keeps_moves.proofs.Move.{moved-header, moved-kept}
+use Rattle.keeps_moves.proofs.Value.{value-done_exact, value_is-move, value-kept}
+use Rattle.keeps_moves.proofs.Detach.{detached-header, detached-kept, children-header, children-kept}
 use Rattle.removed.specs.Gone.{Removes}
-use Rattle.removed.specs.Calls.{node-goes, subtree-goes, children-go, node-refused, subtree-refused, children-refused}
+use Rattle.removed.proofs.Calls.{node-goes, subtree-goes, children-go, node-refused, subtree-refused, children-refused}
 use Rattle.command.specs.Commands.{changed}
 use Rattle.command.specs.Ready.{Stays, changed-stays}
 use Rattle.command.specs.declared.call.Change.{Change}

@@ -22,7 +22,7 @@ use Rattle.keeps.specs.HandoutLaws.{handouts-removed, times_in_lem, times_none}
 use Rattle.keeps.specs.New.{new-number, new-refused}
 use Rattle.moves.specs.Values.{value_no, value_node}
 use Rattle.moves.specs.declared.place.Place.{Place}
-use Rattle.keeps_moves.specs.Value.{value-done_exact, value_is-move}
+use Rattle.keeps_moves.proofs.Value.{value-done_exact, value_is-move}
 use Rattle.command.specs.Commands.{changed}
 use Rattle.command.specs.declared.call.Change.{Change}
 use Rattle.command.specs.declared.call.Change.TheVariants.{New, Value}

@@ -11,14 +11,10 @@
 -- Detach and detach children:
 --   Detach.name-done-exact, detached-forest, detached-ready, children-forest, children-stay-ready
 -- What each leaves alone: -header, -length, -kept (stamps and numbers), -past (no word beyond the slots in use).
+-- Stays, Value, Detach, PutIn, Moved, and of Move all from `move-rule` on, stand in proofs/.
 pub mod Rule
 pub mod Ancestors
 pub mod Past
-pub mod PutIn
-pub mod Moved
 pub mod Move
-pub mod Stays
 pub mod Singles
 pub mod Scatter
-pub mod Detach
-pub mod Value

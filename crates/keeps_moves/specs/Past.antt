@@ -7,7 +7,7 @@ use Rattle.link.specs.Words.{width, PARENT, PREVIOUS, NEXT, place, word, link, s
 use Rattle.link.specs.WordLaws.{link-other}
 use Rattle.link.specs.Found.{Found}
 use Rattle.link.specs.Only.{Other, Only}
-use Rattle.link.specs.OnlyLaws.{only-link, only_then, only-detach}
+use Rattle.link.proofs.OnlyLaws.{only-link, only_then, only-detach}
 use Rattle.link.specs.declared.header.Header.{Header}
 use Rattle.rules.specs.Lists.{All}
 use Rattle.rules.specs.Links.{Link, par, prv, nxt, view}

@@ -7,7 +7,7 @@ use Prim.Native.Nat.{ℕ, zero, suc, ◌<◌}
 use Rattle.link.specs.Ids.{slot_of}
 use Rattle.link.specs.Words.{width, PARENT, PREVIOUS, NEXT, FIRST, LAST, link, set_link}
 use Rattle.link.specs.WordLaws.{length-set_link, set_link-slot}
-use Rattle.link.specs.OnlyLaws.{only-link, only_then}
+use Rattle.link.proofs.OnlyLaws.{only-link, only_then}
 use Rattle.rules.specs.Lists.{head_or, Off, NoDup, All}
 use Rattle.rules.specs.Links.{Link, par, prv, nxt, fst, lst, View}
 use Rattle.rules.specs.Sound.{Linked}

@@ -9,4 +9,3 @@ pub mod Relations
 pub mod Siblings
 pub mod SiblingLaws
 pub mod Only
-pub mod OnlyLaws

@@ -1,4 +1,4 @@
--- Stamps step by one at each hand-out and never come again; a stamp and its 16 bits determine each other (P5 follows).
+-- Stamps step by one at each hand-out; a stamp and its 16 bits determine each other (P5 follows).
 use Rattle.std.specs.Prelude.{◌≡◌, refl, Bool, true, false, ◌⊎◌, ◌-◌, ℕ, zero, suc, ◌<◌, eqb, ltb, leb, ℤ, pos, negsuc}
 use Rattle.std.proofs.Common.{sym, ap, ◌∙◌, inl, inr, arith, le-leb, leb-true, leb-false, le-ltb, lt-ltb, eq-eqb, ne_eqb, eqb-true}
 use Rattle.std.proofs.Math.IntN as ints
@@ -13,16 +13,6 @@ removed-negsuc (suc n) = ints.-ℤ_one (negsuc n)
 -- Removed, then reused: one more.
 pub removed-reused : (n : ℕ) → reused_stamp (removed_stamp (pos n)) ≡ pos (suc n)
 removed-reused n = ap reused_stamp (removed-negsuc n)
-
--- The n-th hand-out has stamp n,
-pub handed_out_lem : (n : ℕ) → handed_out n ≡ pos n
-unfolding handed_out
-handed_out_lem zero = refl
-handed_out_lem (suc n) = ap (λ (z : ℤ). reused_stamp (removed_stamp z)) (handed_out_lem n) ∙ removed-reused n
-
--- so a stamp handed out is never handed out again.
-pub never-again : (i j : ℕ) → handed_out i ≡ handed_out j → i ≡ j
-never-again i j e = let q : pos i ≡ pos j = sym (handed_out_lem i) ∙ e ∙ handed_out_lem j in cc
 
 -- The steps on the bits.
 pub removed_bits_lem : (z : ℤ) → Live z → bits_of (removed_stamp z) ≡ removed_bits (bits_of z)

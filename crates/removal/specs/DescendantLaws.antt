@@ -12,7 +12,7 @@ use Rattle.link.specs.Words.{PARENT, NEXT, FIRST, LAST, link, set_link}
 use Rattle.link.specs.Found.{Found, found_b}
 use Rattle.link.specs.FoundLaws.{found_is}
 use Rattle.link.specs.Only.{Only}
-use Rattle.link.specs.OnlyLaws.{only-link, only_then, only-named}
+use Rattle.link.proofs.OnlyLaws.{only-link, only_then, only-named}
 use Rattle.link.specs.declared.header.Header.{Header}
 use Rattle.arena.specs.FreeList.{free_node}
 use Rattle.removal.specs.declared.id.Turn.{Turn}

@@ -8,7 +8,7 @@ use Prim.Native.Nat.{ℕ, ◌≤◌}
 use Rattle.link.specs.Words.{PARENT, PREVIOUS, NEXT, FIRST, LAST, capacity_of, link}
 use Rattle.link.specs.Found.{found_b}
 use Rattle.link.specs.FoundLaws.{found_is}
-use Rattle.link.specs.OnlyLaws.{only_then, only-detach, only_rewrite, only-transplant}
+use Rattle.link.proofs.OnlyLaws.{only_then, only-detach, only_rewrite, only-transplant}
 use Rattle.link.specs.Siblings.{detach_range, transplanted}
 use Rattle.link.specs.declared.header.Header.{Header}
 use Rattle.rules.specs.Answers.{DONE, REMOVED, refusal, answer}

@@ -4,7 +4,7 @@ use Rattle.std.specs.Prelude.{◌≡◌, List, ℕ, ◌*◌, ◌≤◌, length}
 use Rattle.std.proofs.Common.{ap, arith}
 use Rattle.link.specs.Words.{width, PARENT}
 use Rattle.link.specs.Found.{Found}
-use Rattle.link.specs.OnlyLaws.{only-link, only_then, only-detach}
+use Rattle.link.proofs.OnlyLaws.{only-link, only_then, only-detach}
 use Rattle.link.specs.declared.header.Header.{Header}
 use Rattle.link.specs.declared.siblings_range.Placed.{Placed}
 use Rattle.rules.specs.Links.{view}

@@ -10,7 +10,7 @@ use Rattle.std.proofs.Math.ListN.{length}
 use Rattle.link.specs.Words.{PARENT, PREVIOUS, NEXT, link, set_link}
 use Rattle.link.specs.WordLaws.{link-other}
 use Rattle.link.specs.Only.{Only}
-use Rattle.link.specs.OnlyLaws.{only_then, only-detach, only-transplant}
+use Rattle.link.proofs.OnlyLaws.{only_then, only-detach, only-transplant}
 use Rattle.link.specs.Relations.{connect_neighbors}
 use Rattle.link.specs.Siblings.{detach_range, transplanted}
 use Rattle.link.specs.declared.header.Header.{Header}

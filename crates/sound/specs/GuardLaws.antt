@@ -78,12 +78,18 @@ module _ (m : List ℕ) (h : Header) where
 
   -- The guard lets a call through exactly on ready memory that fits.
   pub guard-ready : (n : ℕ) → (guard_no m h n ≡ DONE) ↔ ((h.used ≤ capacity_of (length m)) × (2 * h.used ≤ n) × Ready m h)
-  unfolding ready_no
+  unfolding guard_no fit_no ready_no refusal
   guard-ready n = (to, from)
     where
       sure : (b : Bool) → cond b DONE INVALID ≡ DONE → b ≡ true
       sure true e = refl
       sure false e = absurd (omega arith)
+
+      unfit : (a b : Bool) → (refusal a b false false false false false false ≡ DONE → ⊥)
+          → refusal a b (not (ready_b (examined m h))) false false false false false ≡ DONE → ⊥
+      unfit true b k e = k e
+      unfit false true k e = k e
+      unfit false false k e = k refl
 
       to : guard_no m h n ≡ DONE → (h.used ≤ capacity_of (length m)) × (2 * h.used ≤ n) × Ready m h
       to e = by (ℕ_discrete (fit_no (length m) h.used n) DONE)
@@ -92,7 +98,7 @@ module _ (m : List ℕ) (h : Header) where
           by (yes d) =
               let f = (fit-done (length m) h.used n).0 d in
               (f.frame, f.room, (examined-ready m h).0 (sure (ready_b (examined m h)) (sym (guard-fits n f) ∙ e)))
-          by (no k) = absurd (k (sym (guard-unfit n k) ∙ e))
+          by (no k) = absurd (unfit (ltb (capacity_of (length m)) h.used) (ltb n (2 * h.used)) k e)
 
       from : (h.used ≤ capacity_of (length m)) × (2 * h.used ≤ n) × Ready m h → guard_no m h n ≡ DONE
       from w =

@@ -9,7 +9,7 @@ use Rattle.link.specs.Ids.{slot_of}
 use Rattle.link.specs.Words.{width, FIRST, LAST, set_word, set_link}
 use Rattle.link.specs.WordLaws.{set_link-some, length-set_link}
 use Rattle.link.specs.Siblings.{rewrite_parents}
-use Rattle.link.specs.OnlyLaws.{only_rewrite}
+use Rattle.link.proofs.OnlyLaws.{only_rewrite}
 use Rattle.link.specs.declared.siblings_range.Placed.{Placed}
 use Rattle.splice.specs.Splice.{Within, NoneOrWithin}
 use Rattle.splice.specs.SpliceLaws.{within-stays, none-or-within-stays}

@@ -9,7 +9,7 @@ use borrow.Author.Tests.{eq-eqb, ne_eqb}
 use Rattle.link.specs.Ids.{slot_of}
 use Rattle.link.specs.Words.{width, PARENT, PREVIOUS, NEXT, FIRST, LAST, link, set_link}
 use Rattle.link.specs.WordLaws.{link-other, set_link_none}
-use Rattle.link.specs.OnlyLaws.{only_rewrite, only-detach}
+use Rattle.link.proofs.OnlyLaws.{only_rewrite, only-detach}
 use Rattle.link.specs.Relations.{first_after, last_after, connect_neighbors}
 use Rattle.link.specs.Siblings.{detach_range, rewrite_parents, joined, transplanted}
 use Rattle.link.specs.declared.siblings_range.Placed.{Placed}

@@ -36,7 +36,7 @@ use Rattle.removal.specs.RemoveLaws.{when-found}
 use Rattle.removed.specs.Gone.{joins, joining, Gone, Removes}
 use Rattle.removed.specs.GoneLaws.{joining-append, gone-kept, gone-then, removes_by}
 use Rattle.removed.specs.Stands.{Stands, stands_live, stands_forested, stands-ready, stands-freed, stands-gone, acyclic-left}
-use Rattle.removed.specs.Below.{below-tree, Swept, sweep}
+use Rattle.removed.proofs.Below.{below-tree, Swept, sweep}
 use Rattle.removed.specs.Alone.{detached-words, detach-length, alone-room, alone-ready, alone-looks, alone-slots}
 use Rattle.removed.specs.TreeStays.{hang_see, detach_fst, detach_hang}
 

@@ -13,7 +13,7 @@ use Rattle.link.specs.Ids.{slot_of}
 use Rattle.link.specs.Words.{width, PARENT, capacity_of, set_link, set_word}
 use Rattle.link.specs.WordLaws.{link-some, set_link-some, set_word-word}
 use Rattle.link.specs.Siblings.{insert_with_neighbors}
-use Rattle.link.specs.OnlyLaws.{only-link, only_then, only-connect}
+use Rattle.link.proofs.OnlyLaws.{only-link, only_then, only-connect}
 use Rattle.link.specs.Found.{Found, found_b}
 use Rattle.link.specs.FoundLaws.{found_is, is_found}
 use Rattle.link.specs.declared.header.Header.{Header}
@@ -42,7 +42,7 @@ use Rattle.moves.specs.ValueLaws.{new-number, value_found}
 use Rattle.moves.specs.declared.place.Place.{Place}
 use Rattle.keeps_moves.specs.Rule.{Ancestor, Puts, MakesAt}
 use Rattle.keeps_moves.specs.Ancestors.{above-or, above-first}
-use Rattle.keeps_moves.specs.PutIn.{put_words, put_in, put_new_lem, put_forested, put-ready, put-past}
+use Rattle.keeps_moves.proofs.PutIn.{put_words, put_in, put_new_lem, put_forested, put-ready, put-past}
 use Rattle.keeps_moves.specs.Past.{Past, past_at}
 use Rattle.keeps_moves.specs.Move.{goes_some, puts_of, Movable, move-done_exact}
 

@@ -7,7 +7,7 @@ use mathlib.Core.List.{List, [], ◌∷◌}
 use Prim.Native.Nat.{ℕ, ◌*◌, ◌≤◌}
 use Rattle.std.proofs.Math.Decide.{ℕ_discrete}
 use Rattle.link.specs.Words.{width, PARENT}
-use Rattle.link.specs.OnlyLaws.{only-link, only_then, only-detach, only_insert}
+use Rattle.link.proofs.OnlyLaws.{only-link, only_then, only-detach, only_insert}
 use Rattle.link.specs.Found.{Found}
 use Rattle.link.specs.declared.header.Header.{Header}
 use Rattle.link.specs.declared.siblings_range.Placed.{Placed}
@@ -29,7 +29,7 @@ use Rattle.moves.specs.Moves.{move_words}
 use Rattle.moves.specs.declared.place.Place.{Place}
 use Rattle.keeps_moves.specs.Rule.{Ancestor, Moves}
 use Rattle.keeps_moves.specs.Ancestors.{above-some, above-or}
-use Rattle.keeps_moves.specs.PutIn.{put_words, put_in, put_forested, put-ready, put-past}
+use Rattle.keeps_moves.proofs.PutIn.{put_words, put_in, put_forested, put-ready, put-past}
 use Rattle.keeps_moves.specs.Past.{Past, past-then, detach-past}
 
 -- Two parent functions that agree at live nodes but x: what x is above by one it is above by the other.

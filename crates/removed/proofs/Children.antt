@@ -21,7 +21,7 @@ use Rattle.removal.specs.RemoveLaws.{when-found}
 use Rattle.removed.specs.Gone.{Removes}
 use Rattle.removed.specs.GoneLaws.{removes_by}
 use Rattle.removed.specs.Stands.{stands_forested, stands-ready}
-use Rattle.removed.specs.Below.{below-tree, Swept, swept, swept-acyclic}
+use Rattle.removed.proofs.Below.{below-tree, Swept, swept, swept-acyclic}
 
 module _ (m : List ℕ) (h : Header) (room : h.used * width ≤ length m) (R : Ready m h) (x : ℕ) (f : Found m h.used x) where
   S : Swept m h room R x f (below-tree m h room R x f)

@@ -4,7 +4,7 @@ use Rattle.std.specs.Prelude.{◌≡◌, refl, ◌↔◌, Bool, true, false, con
 use Rattle.std.proofs.Common.{arith, eqb-true, eq-eqb}
 use Rattle.std.proofs.Math.ListN.{length, get_or}
 use Rattle.link.specs.Words.{width, PARENT}
-use Rattle.link.specs.OnlyLaws.{only-link, only_then, only-detach}
+use Rattle.link.proofs.OnlyLaws.{only-link, only_then, only-detach}
 use Rattle.link.specs.Found.{Found, found_b}
 use Rattle.link.specs.FoundLaws.{found_is, is_found}
 use Rattle.link.specs.declared.header.Header.{Header}
@@ -27,7 +27,8 @@ use Rattle.forest.specs.DetachWords.{kept-detach, detach_forested, detach_ready}
 use Rattle.moves.specs.Detach.{detach, detach_children, name_no, detach_node, detach_children_node}
 use Rattle.keeps_moves.specs.Rule.{Detaches, singles, DetachesChildren}
 use Rattle.keeps_moves.specs.Past.{Past, past_at, detach-past}
-use Rattle.keeps_moves.specs.Singles.{cut, cut-acyclic, holds-singles}
+use Rattle.keeps_moves.specs.Singles.{cut, cut-acyclic}
+use Rattle.keeps_moves.proofs.Singles.{holds-singles}
 use Rattle.keeps_moves.specs.Scatter.{kept-children, length-children, children-look}
 
 pub name-done_exact : (m : List ℕ) (h : Header) (x : ℕ) → (name_no m h x ≡ DONE) ↔ Found m h.used x

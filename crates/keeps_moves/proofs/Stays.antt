@@ -22,8 +22,9 @@ use Rattle.moves.specs.Moves.{move_no, move_node}
 use Rattle.moves.specs.declared.place.Place.{Place}
 use Rattle.moves.specs.declared.place.Place.TheVariants.{Append, Prepend, After, Before}
 use Rattle.keeps_moves.specs.Rule.{Goes, StandsAt, Moves}
-use Rattle.keeps_moves.specs.PutIn.{here, from-here}
-use Rattle.keeps_moves.specs.Move.{Movable, move-done_exact, moved-forest}
+use Rattle.keeps_moves.proofs.PutIn.{here, from-here}
+use Rattle.keeps_moves.specs.Move.{Movable, move-done_exact}
+use Rattle.keeps_moves.proofs.Move.{moved-forest}
 
 put_other : (F : Forest) (k : Key) (xs : List ℕ) (k' : Key) → k' ≢ k → put F k xs k' ≡ F k'
 unfolding put

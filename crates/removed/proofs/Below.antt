@@ -1,6 +1,6 @@
 -- All below a found node of ready memory is freed: the loop takes fewer turns than it has, frees the tree children first, left to
 -- right, and what is left holds the forest without that tree. The node stays, with no children.
-use Rattle.std.specs.Prelude.{◌≡◌, refl, ◌≢◌, ◌↔◌, List, [], ◌∷◌, ◌++◌, ◌-◌, ℕ, ◌+◌, ◌*◌, ◌≤◌, length}
+use Rattle.std.specs.Prelude.{◌≡◌, refl, ◌≢◌, ◌↔◌, List, [], ◌∷◌, ◌++◌, ◌-◌, ℕ, ◌*◌, ◌≤◌, length}
 use Rattle.std.proofs.Common.{sym, ◌∙◌, subst, append-nil, arith, length-append}
 use Rattle.std.proofs.Math.Decide.{ℕ_discrete}
 use Rattle.link.specs.Words.{width}

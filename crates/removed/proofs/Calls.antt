@@ -19,10 +19,10 @@ use Rattle.removal.specs.Remove.{descendants_removed, remove_node, remove_subtre
 use Rattle.removal.specs.RemoveLaws.{when-not}
 use Rattle.removed.specs.Gone.{Removes}
 use Rattle.removed.specs.FreeRoot.{free-root}
-use Rattle.removed.specs.NodeGone.{node_removes, node-forest}
+use Rattle.removed.proofs.NodeGone.{node_removes, node-forest}
 use Rattle.removed.specs.SubtreeRule.{closed-rule}
-use Rattle.removed.specs.SubtreeGone.{subtree_removes, subtree-forest}
-use Rattle.removed.specs.Children.{children_removes, children-forest, children-turns}
+use Rattle.removed.proofs.SubtreeGone.{subtree_removes, subtree-forest}
+use Rattle.removed.proofs.Children.{children_removes, children-forest, children-turns}
 
 module _ (m : List ℕ) (h : Header) (room : h.used * width ≤ length m) (R : Ready m h) (x : ℕ) (f : Found m h.used x) where
   -- The tree below the node: its children in order, each with all below it.

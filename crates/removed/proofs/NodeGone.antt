@@ -35,7 +35,6 @@ use Rattle.forest.specs.Surgery.{detach_words}
 use Rattle.forest.specs.DetachWords.{kept-detach, detach_forested}
 use Rattle.forest.specs.Whole.{Forested, no_cycle}
 use Rattle.arena.specs.FreeList.{free_node}
-use Rattle.removal.specs.Remove as model
 use Rattle.removal.specs.Remove.{steps_for, hoisted, removed, remove_node}
 use Rattle.removal.specs.RemoveLaws.{when-found}
 use Rattle.removed.specs.Gone.{joins, joining, Gone, Removes}

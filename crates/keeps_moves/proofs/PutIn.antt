@@ -5,7 +5,7 @@ use Rattle.std.proofs.Common.{sym, ap, ◌∙◌, subst, inl, inr, append-nil, a
 use Rattle.link.specs.Words.{width, PARENT, FIRST, LAST, link}
 use Rattle.link.specs.Siblings.{insert_with_neighbors}
 use Rattle.link.specs.Found.{Found}
-use Rattle.link.specs.OnlyLaws.{only-link, only_then, only-connect}
+use Rattle.link.proofs.OnlyLaws.{only-link, only_then, only-connect}
 use Rattle.link.specs.declared.header.Header.{Header}
 use Rattle.link.specs.declared.siblings_range.Placed.{Placed}
 use Rattle.link.specs.declared.siblings_range.Placed.TheVariants.{Done}

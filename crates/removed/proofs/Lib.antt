@@ -1,0 +1,5 @@
+pub mod Below
+pub mod Children
+pub mod SubtreeGone
+pub mod NodeGone
+pub mod Calls
