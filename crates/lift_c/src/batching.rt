@@ -7,8 +7,7 @@ ghost use Rattle.lift_c.specs.Face.{header_of};
 use crate::packing::{header_of, put_header};
 use batch::batch::batch;
 
-#[unsafe(no_mangle)]
-pub extern "C" fn lift_batch(
+pub fn lift_batch(
     words: &mut [u32],
     header: &mut [u32; 3],
     scratch: &mut [u32],

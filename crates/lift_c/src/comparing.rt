@@ -7,8 +7,7 @@ ghost use Rattle.lift_c.specs.Face.{header_of};
 use crate::packing::header_of;
 use subtree::subtree_eq;
 
-#[unsafe(no_mangle)]
-pub extern "C" fn lift_subtree_eq(
+pub fn lift_subtree_eq(
     words: &[u32],
     header: &[u32; 3],
     id: u32,

@@ -7,13 +7,7 @@ ghost use Rattle.lift_c.specs.Face.{header_of, census_of};
 use crate::packing::header_of;
 use arena::arena::{census, live_count};
 
-#[unsafe(no_mangle)]
-pub extern "C" fn lift_live_count(
-    words: &[u32],
-    header: &[u32; 3],
-    scratch: &mut [u32],
-    res: &mut u32,
-) -> u32
+pub fn lift_live_count(words: &[u32], header: &[u32; 3], scratch: &mut [u32], res: &mut u32) -> u32
     ensures { (scratch.new, reply result res.new) ≡ live_call words.now (header_of header.now) scratch.old }
 {
     let h = header_of(header);
@@ -23,8 +17,7 @@ pub extern "C" fn lift_live_count(
 }
 
 // Live, free, spent, fresh.
-#[unsafe(no_mangle)]
-pub extern "C" fn lift_census(
+pub fn lift_census(
     words: &[u32],
     header: &[u32; 3],
     scratch: &mut [u32],

@@ -11,8 +11,7 @@ use crate::packing::{header_of, put_header};
 use arena::arena::new_node;
 use moves::calls::{append_value, insert_after_value, insert_before_value, prepend_value};
 
-#[unsafe(no_mangle)]
-pub extern "C" fn lift_new_node(
+pub fn lift_new_node(
     words: &mut [u32],
     header: &mut [u32; 3],
     scratch: &mut [u32],
@@ -29,8 +28,7 @@ pub extern "C" fn lift_new_node(
     answer.number
 }
 
-#[unsafe(no_mangle)]
-pub extern "C" fn lift_append_value(
+pub fn lift_append_value(
     words: &mut [u32],
     header: &mut [u32; 3],
     scratch: &mut [u32],
@@ -48,8 +46,7 @@ pub extern "C" fn lift_append_value(
     answer.number
 }
 
-#[unsafe(no_mangle)]
-pub extern "C" fn lift_prepend_value(
+pub fn lift_prepend_value(
     words: &mut [u32],
     header: &mut [u32; 3],
     scratch: &mut [u32],
@@ -67,8 +64,7 @@ pub extern "C" fn lift_prepend_value(
     answer.number
 }
 
-#[unsafe(no_mangle)]
-pub extern "C" fn lift_insert_after_value(
+pub fn lift_insert_after_value(
     words: &mut [u32],
     header: &mut [u32; 3],
     scratch: &mut [u32],
@@ -86,8 +82,7 @@ pub extern "C" fn lift_insert_after_value(
     answer.number
 }
 
-#[unsafe(no_mangle)]
-pub extern "C" fn lift_insert_before_value(
+pub fn lift_insert_before_value(
     words: &mut [u32],
     header: &mut [u32; 3],
     scratch: &mut [u32],

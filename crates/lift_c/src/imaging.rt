@@ -9,8 +9,7 @@ use crate::packing::{header_of, put_header};
 use image::load::load;
 use image::save::save;
 
-#[unsafe(no_mangle)]
-pub extern "C" fn lift_save(
+pub fn lift_save(
     words: &[u32],
     header: &[u32; 3],
     scratch: &mut [u32],
@@ -26,8 +25,7 @@ pub extern "C" fn lift_save(
 }
 
 // The header is written by every load; by a refused one, with zeros.
-#[unsafe(no_mangle)]
-pub extern "C" fn lift_load(
+pub fn lift_load(
     bytes: &[u8],
     words: &mut [u32],
     header: &mut [u32; 3],

@@ -1,5 +1,5 @@
 // The face for C and Rust: each public call under a name of its own, with the header as three words and the result behind a pointer.
-// Nothing is decided here: a function unpacks, calls and packs. One module for each group of calls; include/lift.h declares them.
+// Nothing is decided here: a function unpacks, calls and packs. One module for each group of calls; crate lift_c_c gives them to C.
 
 #![tactic(auto)]
 

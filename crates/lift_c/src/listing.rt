@@ -14,8 +14,7 @@ use lists::calls::{
 use preorder::calls::descendants;
 
 // The node and all below it, in preorder.
-#[unsafe(no_mangle)]
-pub extern "C" fn lift_descendants(
+pub fn lift_descendants(
     words: &[u32],
     header: &[u32; 3],
     scratch: &mut [u32],
@@ -32,8 +31,7 @@ pub extern "C" fn lift_descendants(
 }
 
 // Those of them that have no children.
-#[unsafe(no_mangle)]
-pub extern "C" fn lift_leaves(
+pub fn lift_leaves(
     words: &[u32],
     header: &[u32; 3],
     scratch: &mut [u32],
@@ -50,8 +48,7 @@ pub extern "C" fn lift_leaves(
 }
 
 // The node, its parent, and so on up.
-#[unsafe(no_mangle)]
-pub extern "C" fn lift_ancestors(
+pub fn lift_ancestors(
     words: &[u32],
     header: &[u32; 3],
     scratch: &mut [u32],
@@ -68,8 +65,7 @@ pub extern "C" fn lift_ancestors(
 }
 
 // The children in order, without the node.
-#[unsafe(no_mangle)]
-pub extern "C" fn lift_children(
+pub fn lift_children(
     words: &[u32],
     header: &[u32; 3],
     scratch: &mut [u32],
@@ -86,8 +82,7 @@ pub extern "C" fn lift_children(
 }
 
 // The node and the siblings after it.
-#[unsafe(no_mangle)]
-pub extern "C" fn lift_following_siblings(
+pub fn lift_following_siblings(
     words: &[u32],
     header: &[u32; 3],
     scratch: &mut [u32],
@@ -104,8 +99,7 @@ pub extern "C" fn lift_following_siblings(
 }
 
 // The node and the siblings before it, the nearest first.
-#[unsafe(no_mangle)]
-pub extern "C" fn lift_preceding_siblings(
+pub fn lift_preceding_siblings(
     words: &[u32],
     header: &[u32; 3],
     scratch: &mut [u32],
@@ -122,8 +116,7 @@ pub extern "C" fn lift_preceding_siblings(
 }
 
 // The node, then the previous sibling, else the parent, and so on.
-#[unsafe(no_mangle)]
-pub extern "C" fn lift_predecessors(
+pub fn lift_predecessors(
     words: &[u32],
     header: &[u32; 3],
     scratch: &mut [u32],
@@ -140,8 +133,7 @@ pub extern "C" fn lift_predecessors(
 }
 
 // The node and all below it, level by level.
-#[unsafe(no_mangle)]
-pub extern "C" fn lift_breadth_first(
+pub fn lift_breadth_first(
     words: &[u32],
     header: &[u32; 3],
     scratch: &mut [u32],
@@ -158,8 +150,7 @@ pub extern "C" fn lift_breadth_first(
 }
 
 // How many nodes there are from a node down, the node with them.
-#[unsafe(no_mangle)]
-pub extern "C" fn lift_descendant_count(
+pub fn lift_descendant_count(
     words: &[u32],
     header: &[u32; 3],
     scratch: &mut [u32],

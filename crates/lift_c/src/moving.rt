@@ -13,8 +13,7 @@ use moves::calls::{
     checked_insert_before, checked_prepend,
 };
 
-#[unsafe(no_mangle)]
-pub extern "C" fn lift_checked_append(
+pub fn lift_checked_append(
     words: &mut [u32],
     header: &mut [u32; 3],
     scratch: &mut [u32],
@@ -32,8 +31,7 @@ pub extern "C" fn lift_checked_append(
     answer.number
 }
 
-#[unsafe(no_mangle)]
-pub extern "C" fn lift_checked_prepend(
+pub fn lift_checked_prepend(
     words: &mut [u32],
     header: &mut [u32; 3],
     scratch: &mut [u32],
@@ -51,8 +49,7 @@ pub extern "C" fn lift_checked_prepend(
     answer.number
 }
 
-#[unsafe(no_mangle)]
-pub extern "C" fn lift_checked_insert_after(
+pub fn lift_checked_insert_after(
     words: &mut [u32],
     header: &mut [u32; 3],
     scratch: &mut [u32],
@@ -70,8 +67,7 @@ pub extern "C" fn lift_checked_insert_after(
     answer.number
 }
 
-#[unsafe(no_mangle)]
-pub extern "C" fn lift_checked_insert_before(
+pub fn lift_checked_insert_before(
     words: &mut [u32],
     header: &mut [u32; 3],
     scratch: &mut [u32],
@@ -89,8 +85,7 @@ pub extern "C" fn lift_checked_insert_before(
     answer.number
 }
 
-#[unsafe(no_mangle)]
-pub extern "C" fn lift_checked_detach(
+pub fn lift_checked_detach(
     words: &mut [u32],
     header: &mut [u32; 3],
     scratch: &mut [u32],
@@ -107,8 +102,7 @@ pub extern "C" fn lift_checked_detach(
     answer.number
 }
 
-#[unsafe(no_mangle)]
-pub extern "C" fn lift_checked_detach_children(
+pub fn lift_checked_detach_children(
     words: &mut [u32],
     header: &mut [u32; 3],
     scratch: &mut [u32],

@@ -9,8 +9,7 @@ use crate::packing::{header_of, put_header};
 use arena::arena::clear;
 use arena::node::{first_child, get, last_child, next_sibling, parent, previous_sibling, set};
 
-#[unsafe(no_mangle)]
-pub extern "C" fn lift_get(words: &[u32], header: &[u32; 3], id: u32, res: &mut u32) -> u32
+pub fn lift_get(words: &[u32], header: &[u32; 3], id: u32, res: &mut u32) -> u32
     ensures { reply result res.new ≡ read_word NUMBER words.now (header_of header.now) id }
 {
     let h = header_of(header);
@@ -19,8 +18,7 @@ pub extern "C" fn lift_get(words: &[u32], header: &[u32; 3], id: u32, res: &mut 
     answer.number
 }
 
-#[unsafe(no_mangle)]
-pub extern "C" fn lift_parent(words: &[u32], header: &[u32; 3], id: u32, res: &mut u32) -> u32
+pub fn lift_parent(words: &[u32], header: &[u32; 3], id: u32, res: &mut u32) -> u32
     ensures { reply result res.new ≡ read_word PARENT words.now (header_of header.now) id }
 {
     let h = header_of(header);
@@ -29,8 +27,7 @@ pub extern "C" fn lift_parent(words: &[u32], header: &[u32; 3], id: u32, res: &m
     answer.number
 }
 
-#[unsafe(no_mangle)]
-pub extern "C" fn lift_first_child(words: &[u32], header: &[u32; 3], id: u32, res: &mut u32) -> u32
+pub fn lift_first_child(words: &[u32], header: &[u32; 3], id: u32, res: &mut u32) -> u32
     ensures { reply result res.new ≡ read_word FIRST words.now (header_of header.now) id }
 {
     let h = header_of(header);
@@ -39,8 +36,7 @@ pub extern "C" fn lift_first_child(words: &[u32], header: &[u32; 3], id: u32, re
     answer.number
 }
 
-#[unsafe(no_mangle)]
-pub extern "C" fn lift_last_child(words: &[u32], header: &[u32; 3], id: u32, res: &mut u32) -> u32
+pub fn lift_last_child(words: &[u32], header: &[u32; 3], id: u32, res: &mut u32) -> u32
     ensures { reply result res.new ≡ read_word LAST words.now (header_of header.now) id }
 {
     let h = header_of(header);
@@ -49,8 +45,7 @@ pub extern "C" fn lift_last_child(words: &[u32], header: &[u32; 3], id: u32, res
     answer.number
 }
 
-#[unsafe(no_mangle)]
-pub extern "C" fn lift_next_sibling(words: &[u32], header: &[u32; 3], id: u32, res: &mut u32) -> u32
+pub fn lift_next_sibling(words: &[u32], header: &[u32; 3], id: u32, res: &mut u32) -> u32
     ensures { reply result res.new ≡ read_word NEXT words.now (header_of header.now) id }
 {
     let h = header_of(header);
@@ -59,13 +54,7 @@ pub extern "C" fn lift_next_sibling(words: &[u32], header: &[u32; 3], id: u32, r
     answer.number
 }
 
-#[unsafe(no_mangle)]
-pub extern "C" fn lift_previous_sibling(
-    words: &[u32],
-    header: &[u32; 3],
-    id: u32,
-    res: &mut u32,
-) -> u32
+pub fn lift_previous_sibling(words: &[u32], header: &[u32; 3], id: u32, res: &mut u32) -> u32
     ensures { reply result res.new ≡ read_word PREVIOUS words.now (header_of header.now) id }
 {
     let h = header_of(header);
@@ -74,14 +63,7 @@ pub extern "C" fn lift_previous_sibling(
     answer.number
 }
 
-#[unsafe(no_mangle)]
-pub extern "C" fn lift_set(
-    words: &mut [u32],
-    header: &[u32; 3],
-    id: u32,
-    number: u32,
-    res: &mut u32,
-) -> u32
+pub fn lift_set(words: &mut [u32], header: &[u32; 3], id: u32, number: u32, res: &mut u32) -> u32
     ensures { (words.new, reply result res.new) ≡ set_number words.old (header_of header.now) id number }
 {
     let h = header_of(header);
@@ -90,8 +72,7 @@ pub extern "C" fn lift_set(
     answer.number
 }
 
-#[unsafe(no_mangle)]
-pub extern "C" fn lift_clear(header: &mut [u32; 3]) -> u32
+pub fn lift_clear(header: &mut [u32; 3]) -> u32
     ensures { answer (header_of header.new) result 0 ≡ answer cleared DONE 0 }
 {
     let answer = clear();

@@ -8,8 +8,7 @@ ghost use Rattle.lift_c.specs.Face.{header_of};
 use crate::packing::{header_of, put_header};
 use removal::removal::{checked_remove, checked_remove_subtree, remove_children};
 
-#[unsafe(no_mangle)]
-pub extern "C" fn lift_checked_remove(
+pub fn lift_checked_remove(
     words: &mut [u32],
     header: &mut [u32; 3],
     scratch: &mut [u32],
@@ -26,8 +25,7 @@ pub extern "C" fn lift_checked_remove(
     answer.number
 }
 
-#[unsafe(no_mangle)]
-pub extern "C" fn lift_checked_remove_subtree(
+pub fn lift_checked_remove_subtree(
     words: &mut [u32],
     header: &mut [u32; 3],
     scratch: &mut [u32],
@@ -44,8 +42,7 @@ pub extern "C" fn lift_checked_remove_subtree(
     answer.number
 }
 
-#[unsafe(no_mangle)]
-pub extern "C" fn lift_remove_children(
+pub fn lift_remove_children(
     words: &mut [u32],
     header: &mut [u32; 3],
     scratch: &mut [u32],

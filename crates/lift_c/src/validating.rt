@@ -8,13 +8,7 @@ use crate::packing::header_of;
 use sound::validate;
 
 // Answers the number; `result` is 1 for sound memory, else 0.
-#[unsafe(no_mangle)]
-pub extern "C" fn lift_validate(
-    words: &[u32],
-    header: &[u32; 3],
-    scratch: &mut [u32],
-    res: &mut u32,
-) -> u32
+pub fn lift_validate(words: &[u32], header: &[u32; 3], scratch: &mut [u32], res: &mut u32) -> u32
     ensures { (scratch.new, reply result res.new) ≡ validated words.now (header_of header.now) scratch.old }
 {
     let h = header_of(header);

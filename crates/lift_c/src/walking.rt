@@ -31,13 +31,7 @@ fn put_walk(words: &[u32], used: u32, number: u32, stands: Traverse, state: &mut
     }
 }
 
-#[unsafe(no_mangle)]
-pub extern "C" fn lift_walk_start(
-    words: &[u32],
-    header: &[u32; 3],
-    root: u32,
-    state: &mut [u32; 3],
-) -> u32
+pub fn lift_walk_start(words: &[u32], header: &[u32; 3], root: u32, state: &mut [u32; 3]) -> u32
     ensures { (state.new, result) ≡ start_call words.now (header_of header.now) root state.old }
 {
     let h = header_of(header);
@@ -48,8 +42,7 @@ pub extern "C" fn lift_walk_start(
     number
 }
 
-#[unsafe(no_mangle)]
-pub extern "C" fn lift_walk(
+pub fn lift_walk(
     words: &[u32],
     header: &[u32; 3],
     state: &mut [u32; 3],

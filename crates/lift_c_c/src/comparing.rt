@@ -1,0 +1,32 @@
+// Two subtrees compared. One memory may be lent twice: it is only read.
+ghost use Rattle.std.specs.Prelude.{◌≡◌};
+ghost use Rattle.rules.specs.Answers.{reply};
+ghost use Rattle.subtree.specs.Compare.{subtrees_compared};
+ghost use Rattle.lift_c.specs.Face.{header_of};
+
+use lift_c::comparing;
+
+#[unsafe(no_mangle)]
+pub extern "C" fn lift_subtree_eq(
+    words: &[u32],
+    header: &[u32; 3],
+    id: u32,
+    other_words: &[u32],
+    other_header: &[u32; 3],
+    other_id: u32,
+    scratch: &mut [u32],
+    res: &mut u32,
+) -> u32
+    ensures { (scratch.new, reply result res.new) ≡ subtrees_compared words.now (header_of header.now) id other_words.now (header_of other_header.now) other_id scratch.old }
+{
+    comparing::lift_subtree_eq(
+        words,
+        header,
+        id,
+        other_words,
+        other_header,
+        other_id,
+        scratch,
+        res,
+    )
+}

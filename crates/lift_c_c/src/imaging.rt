@@ -1,0 +1,34 @@
+// Save and load.
+ghost use Rattle.std.specs.Prelude.{◌≡◌};
+ghost use Rattle.rules.specs.Answers.{reply, answer};
+ghost use Rattle.image.specs.Save.{saved};
+ghost use Rattle.image.specs.Load.{loaded};
+ghost use Rattle.lift_c.specs.Face.{header_of};
+
+use lift_c::imaging;
+
+#[unsafe(no_mangle)]
+pub extern "C" fn lift_save(
+    words: &[u32],
+    header: &[u32; 3],
+    scratch: &mut [u32],
+    bytes: &mut [u8],
+    res: &mut u32,
+) -> u32
+    ensures { (scratch.new, bytes.new, reply result res.new) ≡ saved words.now (header_of header.now) scratch.old bytes.old }
+{
+    imaging::lift_save(words, header, scratch, bytes, res)
+}
+
+#[unsafe(no_mangle)]
+pub extern "C" fn lift_load(
+    bytes: &[u8],
+    words: &mut [u32],
+    header: &mut [u32; 3],
+    scratch: &mut [u32],
+    res: &mut u32,
+) -> u32
+    ensures { (words.new, scratch.new, answer (header_of header.new) result res.new) ≡ loaded bytes.now words.old scratch.old }
+{
+    imaging::lift_load(bytes, words, header, scratch, res)
+}

@@ -1,0 +1,75 @@
+// Single reads, set and clear.
+ghost use Rattle.std.specs.Prelude.{◌≡◌};
+ghost use Rattle.link.specs.Words.{NUMBER, PARENT, PREVIOUS, NEXT, FIRST, LAST};
+ghost use Rattle.rules.specs.Answers.{DONE, reply, answer};
+ghost use Rattle.arena.specs.Reads.{read_word, set_number, cleared};
+ghost use Rattle.lift_c.specs.Face.{header_of};
+
+use lift_c::reading;
+
+#[unsafe(no_mangle)]
+pub extern "C" fn lift_get(words: &[u32], header: &[u32; 3], id: u32, res: &mut u32) -> u32
+    ensures { reply result res.new ≡ read_word NUMBER words.now (header_of header.now) id }
+{
+    reading::lift_get(words, header, id, res)
+}
+
+#[unsafe(no_mangle)]
+pub extern "C" fn lift_parent(words: &[u32], header: &[u32; 3], id: u32, res: &mut u32) -> u32
+    ensures { reply result res.new ≡ read_word PARENT words.now (header_of header.now) id }
+{
+    reading::lift_parent(words, header, id, res)
+}
+
+#[unsafe(no_mangle)]
+pub extern "C" fn lift_first_child(words: &[u32], header: &[u32; 3], id: u32, res: &mut u32) -> u32
+    ensures { reply result res.new ≡ read_word FIRST words.now (header_of header.now) id }
+{
+    reading::lift_first_child(words, header, id, res)
+}
+
+#[unsafe(no_mangle)]
+pub extern "C" fn lift_last_child(words: &[u32], header: &[u32; 3], id: u32, res: &mut u32) -> u32
+    ensures { reply result res.new ≡ read_word LAST words.now (header_of header.now) id }
+{
+    reading::lift_last_child(words, header, id, res)
+}
+
+#[unsafe(no_mangle)]
+pub extern "C" fn lift_next_sibling(words: &[u32], header: &[u32; 3], id: u32, res: &mut u32) -> u32
+    ensures { reply result res.new ≡ read_word NEXT words.now (header_of header.now) id }
+{
+    reading::lift_next_sibling(words, header, id, res)
+}
+
+#[unsafe(no_mangle)]
+pub extern "C" fn lift_previous_sibling(
+    words: &[u32],
+    header: &[u32; 3],
+    id: u32,
+    res: &mut u32,
+) -> u32
+    ensures { reply result res.new ≡ read_word PREVIOUS words.now (header_of header.now) id }
+{
+    reading::lift_previous_sibling(words, header, id, res)
+}
+
+#[unsafe(no_mangle)]
+pub extern "C" fn lift_set(
+    words: &mut [u32],
+    header: &[u32; 3],
+    id: u32,
+    number: u32,
+    res: &mut u32,
+) -> u32
+    ensures { (words.new, reply result res.new) ≡ set_number words.old (header_of header.now) id number }
+{
+    reading::lift_set(words, header, id, number, res)
+}
+
+#[unsafe(no_mangle)]
+pub extern "C" fn lift_clear(header: &mut [u32; 3]) -> u32
+    ensures { answer (header_of header.new) result 0 ≡ answer cleared DONE 0 }
+{
+    reading::lift_clear(header)
+}

@@ -1,0 +1,19 @@
+// The validator.
+ghost use Rattle.std.specs.Prelude.{◌≡◌};
+ghost use Rattle.rules.specs.Answers.{reply};
+ghost use Rattle.sound.specs.Guard.{validated};
+ghost use Rattle.lift_c.specs.Face.{header_of};
+
+use lift_c::validating;
+
+#[unsafe(no_mangle)]
+pub extern "C" fn lift_validate(
+    words: &[u32],
+    header: &[u32; 3],
+    scratch: &mut [u32],
+    res: &mut u32,
+) -> u32
+    ensures { (scratch.new, reply result res.new) ≡ validated words.now (header_of header.now) scratch.old }
+{
+    validating::lift_validate(words, header, scratch, res)
+}
