@@ -1,4 +1,4 @@
-/* The proved tree core, for C. Link target/staticlib/liblift_c.a (rt staticlib lift_c), x86-64.
+/* The proved tree core, for C. Link target/staticlib/liblift_c.a (sh tools/staticlib), x86-64.
  *
  * Memory is lent: words, seven to a slot, and a header of three words, used, first free, last free. Scratch of 2 x used words is lent
  * to calls that examine memory; where they did, those words are then zero. Each call takes any words, any header, any lengths, and

@@ -1,5 +1,5 @@
 /* Document 01's worked examples by the face for C, and a cancel with an old identifier. Links the proved library:
- *     rt staticlib lift_c && cc -Iinclude -o worked samples/worked.c target/staticlib/liblift_c.a && ./worked */
+ *     sh tools/staticlib && cc -Iinclude -o worked samples/worked.c target/staticlib/liblift_c.a && ./worked */
 #include "lift.h"
 
 #include <stdio.h>

@@ -45,8 +45,8 @@ fn same_files(a: &str, b: &str) -> bool {
 }
 
 pub fn table(rounds: usize, theirs: &[String], ours: &[String], aims: &mut Aims) {
-    if !std::path::Path::new("target/bin/lift").exists() {
-        println!("\nThe program lift is not built (rt check lift): left out.");
+    if !std::path::Path::new("crates/lift/out/lift").exists() {
+        println!("\nThe program lift is not built (tools/show builds it): left out.");
         return;
     }
     let trace = "target/rust/ten_million";
