@@ -1,9 +1,9 @@
 -- Theorems about the definitions of `rules`. On words:
---   Whole.sound-forested    sound memory holds a forest
+--   Whole.sound_forested    sound memory holds a forest
 --   Whole.only-children     that forest is the only one: the children of each node,
 --   Whole.only-chain        and the chain that each node stands in
---   Whole.no-cycle          sound memory has no cycle
---   Whole.tree-of           the tree below a found node exists, its nodes are found, and none stands in it twice
+--   Whole.no_cycle          sound memory has no cycle
+--   Whole.tree_of_lem       the tree below a found node exists, its nodes are found, and none stands in it twice
 --   Whole.walk_of           the walk from a found node meets the edges of its tree, in order
 --   Found.live-found        a live slot of kind 0 is named by exactly one found identifier
 --   Free.free-only          the free chain is the only one

@@ -1,5 +1,5 @@
 -- The words that surgery writes make memory look as its view says: neighbours connected, a node detached, a node put in a place.
--- Each is a run of writes of one link, so each is a run of `looks-write`.
+-- Each is a run of writes of one link, so each is a run of `looks_write`.
 use Rattle.std.specs.Prelude.{◌≡◌, refl, ◌≢◌, ◌⊎◌}
 use Rattle.std.proofs.Common.{sym, ap, ◌∙◌, subst, inl, inr, suc-ne-zero, arith, ne_eqb}
 use mathlib.Core.List.{List, [], ◌∷◌}

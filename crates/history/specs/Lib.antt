@@ -2,7 +2,7 @@
 -- Theorems, from those of each call:
 --   Run.step            every call, as a history sees it, on memory that calls made: Steps.Step
 --   Run.good            what then holds after any calls on a fresh arena: Invariant.Good
---   Numbers.get-exactly, Full.creation-exactly, RootChains.walked-once   what demand 3 says of a read, of FULL, of the root chains
+--   Numbers.get_exactly, Full.creation_exactly, RootChains.walked_once   what demand 3 says of a read, of FULL, of the root chains
 -- Below them: identifiers made and gone (Effect), the free chain (FreeSlots), the tree below a node (Descendants), the calls by their
 -- kinds (StepLaws, ChangeSteps), one event more (EventLaws), lists one after the other (WalkedLaws).
 pub mod Calls
