@@ -9,10 +9,10 @@ use Rattle.command.specs.declared.call.Change.{Change}
 use Rattle.history.specs.Calls.{Memory, fresh, Call, change, get, replies, number_of, Program, called}
 use Rattle.history.specs.History.{Event, after, history, Since, FoundIn, handed, HandsOut, Takes, Stores, NoneLeft, Acceptable}
 use Rattle.history.specs.Walked.{walked_all, occurs}
-use Rattle.history.specs.Run.{good}
-use Rattle.history.specs.Full.{creation_exactly}
+use Rattle.history.proofs.Run.{good}
+use Rattle.history.proofs.Full.{creation_exactly}
 use Rattle.history.specs.Numbers.{get_exactly}
-use Rattle.history.specs.RootChains.{walked_once, walked-never}
+use Rattle.history.proofs.RootChains.{walked_once, walked-never}
 
 -- A statement on a program, the memory now and what happened; met where it holds after any calls. Any list of calls is the beginning of a
 -- longer one, and what happened in it does not depend on what comes later (history: EventLaws `history-then`).

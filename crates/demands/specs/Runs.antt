@@ -21,8 +21,8 @@ use Rattle.command.specs.declared.call.Change.TheVariants.{New, Remove, Value}
 use Rattle.history.specs.Calls.{Memory, memory, Call, change, Told, answers, Program, called}
 use Rattle.history.specs.History.{Event, after, history}
 use Rattle.history.specs.Steps.{Fine}
-use Rattle.history.specs.ChangeSteps.{passes}
-use Rattle.history.specs.Run.{step, good}
+use Rattle.history.proofs.ChangeSteps.{passes}
+use Rattle.history.proofs.Run.{step, good}
 use Rattle.history.specs.Calls as arena
 
 -- ---- a program's run, call by call

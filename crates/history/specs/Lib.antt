@@ -5,6 +5,7 @@
 --   Numbers.get_exactly, Full.creation_exactly, RootChains.walked_once   what demand 3 says of a read, of FULL, of the root chains
 -- Below them: identifiers made and gone (Effect), the free chain (FreeSlots), the tree below a node (Descendants), the calls by their
 -- kinds (StepLaws, ChangeSteps), one event more (EventLaws), lists one after the other (WalkedLaws).
+-- ChangeSteps, Run, RootChains and Full stand in proofs/.
 pub mod Calls
 pub mod History
 pub mod Walked
@@ -14,10 +15,6 @@ pub mod Descendants
 pub mod Effect
 pub mod Steps
 pub mod StepLaws
-pub mod ChangeSteps
 pub mod Invariant
-pub mod Run
 pub mod WalkedLaws
-pub mod RootChains
-pub mod Full
 pub mod Numbers

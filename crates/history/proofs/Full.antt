@@ -29,7 +29,7 @@ use Rattle.command.specs.declared.call.Change.TheVariants.{New, Value}
 use Rattle.history.specs.Calls.{Memory, change, number_of, called}
 use Rattle.history.specs.History.{Event, handed, times_of, LiveIn, NoneLeft, Acceptable}
 use Rattle.history.specs.Steps.{Fine}
-use Rattle.history.specs.ChangeSteps.{passes}
+use Rattle.history.proofs.ChangeSteps.{passes}
 use Rattle.history.specs.Invariant.{Good}
 use Rattle.moves.specs.ValueLaws as value
 

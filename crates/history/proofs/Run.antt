@@ -8,7 +8,7 @@ use Rattle.history.specs.Calls.{Memory, fresh, Call, change, set, read, called}
 use Rattle.history.specs.History.{after, history}
 use Rattle.history.specs.Steps.{Fine, Step}
 use Rattle.history.specs.StepLaws.{read_step, set-step}
-use Rattle.history.specs.ChangeSteps.{change-step}
+use Rattle.history.proofs.ChangeSteps.{change-step}
 use Rattle.history.specs.Invariant.{Good, good-run}
 
 pub step : (w : Memory) → Fine w → (c : Call) → Step w c (called c w)

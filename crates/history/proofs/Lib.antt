@@ -1,0 +1,4 @@
+pub mod ChangeSteps
+pub mod Run
+pub mod RootChains
+pub mod Full
