@@ -6,18 +6,14 @@
 --   Code.does-NAME, FaceCode.does-NAME   the public functions, and those of the face, do these very calls, by their own statements
 --   Refuted.NAME-fails      wrong programs, of each a statement that is false of it
 -- The files named Laws have the proofs below them.
+-- CallLaws, CommandLaws, Demand1, Demand2 and Refuted stand in proofs/.
 pub mod Every
 pub mod Refusals
 pub mod Rules
 pub mod Statements
-pub mod Demand1
-pub mod Demand2
 pub mod Code
 pub mod FaceCode
-pub mod Refuted
 pub mod RefusalLaws
 pub mod LoadLaws
 pub mod ReadLaws
-pub mod CallLaws
-pub mod CommandLaws
 pub mod ForestLaws

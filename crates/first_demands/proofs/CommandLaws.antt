@@ -21,7 +21,7 @@ use Rattle.first_demands.specs.Every.{command, batch, done}
 use Rattle.first_demands.specs.Refusals.{guards, numbers_of_change, numbers_of_call, call_refused, scratch_of, Pairs, Tabled, BatchAnswers, Answers, RefusalKeeps, ScratchHolds}
 use Rattle.first_demands.specs.RefusalLaws.{by_cond}
 use Rattle.first_demands.specs.ReadLaws.{batch-done}
-use Rattle.first_demands.specs.CallLaws.{call-both, call-scratch}
+use Rattle.first_demands.proofs.CallLaws.{call-both, call-scratch}
 use Rattle.command.specs.declared.call.Call as coded
 
 -- ---- a command

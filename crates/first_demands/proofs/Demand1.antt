@@ -7,8 +7,8 @@ use Rattle.history.specs.Calls.{Memory, answers}
 use Rattle.first_demands.specs.Every.{Every, one, clear, load, command, batch, done}
 use Rattle.first_demands.specs.Refusals.{BatchAnswers, Answers, RefusalKeeps, ScratchHolds}
 use Rattle.first_demands.specs.LoadLaws.{fair-loaded}
-use Rattle.first_demands.specs.CallLaws.{call-both, call-scratch}
-use Rattle.first_demands.specs.CommandLaws.{batch-answers, command-both, command-scratch, batch-both, batch-scratch}
+use Rattle.first_demands.proofs.CallLaws.{call-both, call-scratch}
+use Rattle.first_demands.proofs.CommandLaws.{batch-answers, command-both, command-scratch, batch-both, batch-scratch}
 
 -- Every call answers one of its own numbers. Excluded: a number that is not in the table; FULL answered by a removal; a batch that answers
 -- what its first command answers.

@@ -30,7 +30,7 @@ use Rattle.first_demands.specs.Every.{Every, one, clear, load, command, batch, d
 use Rattle.first_demands.specs.Refusals.{Answers, RefusalKeeps, ScratchHolds}
 use Rattle.first_demands.specs.Statements.{Works, DoneExactly, ChangesRightly, ValidatorExact, WalkYields, BatchDoes}
 use Rattle.first_demands.specs.ForestLaws.{work-ready}
-use Rattle.first_demands.specs.Demand2.{done_exactly, walk-yields-edges}
+use Rattle.first_demands.proofs.Demand2.{done_exactly, walk-yields-edges}
 use Rattle.little_endian.specs.Bytes as bytes
 
 -- ---- two memories of one slot: nothing in use, and one node with the number 5
