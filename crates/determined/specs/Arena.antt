@@ -56,8 +56,8 @@ one-read _ _ _ _ = one_value (λ t. (t, (tt, (tt, (tt, (tt, tt))))))
 pub one-get : OneOutcome get.Kinds.ps get.Kinds.r get.Reads.Learnt
 one-get _ _ _ _ = one_value (λ t. (t, (tt, (tt, (tt, tt)))))
 
-pub one_parent : OneOutcome parent.Kinds.ps parent.Kinds.r parent.Reads.Learnt
-one_parent _ _ _ _ = one_value (λ t. (t, (tt, (tt, (tt, tt)))))
+pub one-parent : OneOutcome parent.Kinds.ps parent.Kinds.r parent.Reads.Learnt
+one-parent _ _ _ _ = one_value (λ t. (t, (tt, (tt, (tt, tt)))))
 
 pub one-first_child : OneOutcome first_child.Kinds.ps first_child.Kinds.r first_child.Reads.Learnt
 one-first_child _ _ _ _ = one_value (λ t. (t, (tt, (tt, (tt, tt)))))
@@ -71,5 +71,5 @@ one-previous_sibling _ _ _ _ = one_value (λ t. (t, (tt, (tt, (tt, tt)))))
 pub one-next_sibling : OneOutcome next_sibling.Kinds.ps next_sibling.Kinds.r next_sibling.Reads.Learnt
 one-next_sibling _ _ _ _ = one_value (λ t. (t, (tt, (tt, (tt, tt)))))
 
-pub one_set : OneOutcome set.Kinds.ps set.Kinds.r set.Reads.Learnt
-one_set _ _ _ _ = one_value (λ t. (t.1, (t.0, (tt, (tt, (tt, tt))))))
+pub one-set : OneOutcome set.Kinds.ps set.Kinds.r set.Reads.Learnt
+one-set _ _ _ _ = one_value (λ t. (t.1, (t.0, (tt, (tt, (tt, tt))))))

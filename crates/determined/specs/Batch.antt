@@ -10,14 +10,14 @@ use Rattle.batch.proofs.perform.put_answer
 use Rattle.batch.proofs.trace.command_at
 use Rattle.batch.proofs.trace.answers_of
 
-pub one_batch : OneOutcome batch.Kinds.ps batch.Kinds.r batch.Reads.Learnt
-one_batch _ _ _ _ = one_value (λ t. (t.3, (t.0, (tt, (t.1, (tt, (t.2, tt)))))))
+pub one-batch : OneOutcome batch.Kinds.ps batch.Kinds.r batch.Reads.Learnt
+one-batch _ _ _ _ = one_value (λ t. (t.3, (t.0, (tt, (t.1, (tt, (t.2, tt)))))))
 
 pub one-put_answer : OneOutcome put_answer.Kinds.ps put_answer.Kinds.r put_answer.Reads.Learnt
 one-put_answer _ _ _ _ = one_value (λ t. (tt, (t, (tt, (tt, (tt, tt))))))
 
-pub one_command_at : OneOutcome command_at.Kinds.ps command_at.Kinds.r command_at.Reads.Learnt
-one_command_at _ _ _ _ = one_value (λ t. (t, (tt, (tt, tt))))
+pub one-command_at : OneOutcome command_at.Kinds.ps command_at.Kinds.r command_at.Reads.Learnt
+one-command_at _ _ _ _ = one_value (λ t. (t, (tt, (tt, tt))))
 
 pub one-answers_of : OneOutcome answers_of.Kinds.ps answers_of.Kinds.r answers_of.Reads.Learnt
 one-answers_of _ _ _ _ = one_value (λ t. (t, (tt, tt)))

@@ -58,8 +58,8 @@ one-is_settled _ _ _ _ = one_value (λ t. (t, (tt, (tt, tt))))
 -- What a batch remembers of the memory: how much of it is open.
 
 -- Nothing looked at: the verdict is open.
-pub seen_nothing : OneSeen nothing.Kinds.ps nothing.Kinds.r (Bool × ℕ) (λ _ _ x. (x.0.looked, x.0.clean)) nothing.Reads.Learnt
-seen_nothing _ _ _ _ p q = two-values (λ t v. (t, v)) p.0 q.0 p.1 q.1
+pub seen-nothing : OneSeen nothing.Kinds.ps nothing.Kinds.r (Bool × ℕ) (λ _ _ x. (x.0.looked, x.0.clean)) nothing.Reads.Learnt
+seen-nothing _ _ _ _ p q = two-values (λ t v. (t, v)) p.0 q.0 p.1 q.1
 
 -- The scratch, and the verdict found. Open: how many of the zero words are known to be zero.
 pub seen-look :
@@ -85,8 +85,8 @@ finished-same c m h s m' s' r S = by r.ready refl
     by false e = (S.answered e).same
 
 -- The command's outcome, once it is done. Open: whether it is answered at once where memory is ready, and what is remembered.
-pub seen_start :
+pub seen-start :
     OneSeen start.Kinds.ps start.Kinds.r Outcome (λ _ a x. finished a.1.1.1.1.1.1.0 a.1.0 x.1.0 x.1.1.1.0 x.0) start.Reads.Learnt
-seen_start _ a x y p q =
+seen-start _ a x y p q =
     let c = a.1.1.1.1.1.1.0 in
     finished-same c _ a.1.0 _ x.1.0 x.1.1.1.0 x.0 p ∙ sym (finished-same c _ a.1.0 _ y.1.0 y.1.1.1.0 y.0 q)

@@ -51,8 +51,8 @@ one-climb_all _ _ _ _ = one_value (λ t. (t.1, (t.0, (tt, tt))))
 pub one-found_within : OneOutcome found_within.Kinds.ps found_within.Kinds.r found_within.Reads.Learnt
 one-found_within _ _ _ _ = one_value (λ t. (t, (tt, (tt, (tt, tt)))))
 
-pub one_has : OneOutcome has.Kinds.ps has.Kinds.r has.Reads.Learnt
-one_has _ _ _ _ = one_value (λ t. (t, (tt, (tt, (tt, (tt, (tt, (tt, (tt, tt)))))))))
+pub one-has : OneOutcome has.Kinds.ps has.Kinds.r has.Reads.Learnt
+one-has _ _ _ _ = one_value (λ t. (t, (tt, (tt, (tt, (tt, (tt, (tt, (tt, tt)))))))))
 
 pub one-children_ok : OneOutcome children_ok.Kinds.ps children_ok.Kinds.r children_ok.Reads.Learnt
 one-children_ok _ _ _ _ = one_value (λ t. (t, (tt, (tt, (tt, (tt, (tt, tt)))))))

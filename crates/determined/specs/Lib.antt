@@ -3,7 +3,7 @@
 --   Outcome.OneOutcome     what that says
 --   one-NAME               of the function NAME; a file for each crate of code, in the order of its sources; Face is lift_c
 --   seen-NAME              what is one where the statement leaves something open: docs/EXCEPTIONS.md
---   Refuted.NAME-fails     statements that leave an outcome open are caught
+--   Refuted.NAME_fails     statements that leave an outcome open are caught
 pub mod Outcome
 pub mod Refuted
 pub mod Link

@@ -64,8 +64,8 @@ one-slot_of _ _ _ _ = one_value (λ t. (t, (tt, tt)))
 pub one-stamp_of : OneOutcome stamp_of.Kinds.ps stamp_of.Kinds.r stamp_of.Reads.Learnt
 one-stamp_of _ _ _ _ = one_value (λ t. (t, (tt, tt)))
 
-pub one_found : OneOutcome found.Kinds.ps found.Kinds.r found.Reads.Learnt
-one_found _ _ _ _ = one_value (λ t. (t, (tt, (tt, (tt, tt)))))
+pub one-found : OneOutcome found.Kinds.ps found.Kinds.r found.Reads.Learnt
+one-found _ _ _ _ = one_value (λ t. (t, (tt, (tt, (tt, tt)))))
 
 pub one-connect_neighbors : OneOutcome connect_neighbors.Kinds.ps connect_neighbors.Kinds.r connect_neighbors.Reads.Learnt
 one-connect_neighbors _ _ _ _ = one_value (λ t. (tt, (t, (tt, (tt, (tt, tt))))))

@@ -73,8 +73,8 @@ one-move_words _ _ _ _ = one_value (λ t. (tt, (t, (tt, (tt, (tt, (tt, tt)))))))
 pub one-move_node : OneOutcome move_node.Kinds.ps move_node.Kinds.r move_node.Reads.Learnt
 one-move_node _ _ _ _ = one_value (λ t. (t.1, (t.0, (tt, (tt, (tt, (tt, tt)))))))
 
-pub one_spot : OneOutcome spot.Kinds.ps spot.Kinds.r spot.Reads.Learnt
-one_spot _ _ _ _ = one_value (λ t. (t, (tt, (tt, (tt, tt)))))
+pub one-spot : OneOutcome spot.Kinds.ps spot.Kinds.r spot.Reads.Learnt
+one-spot _ _ _ _ = one_value (λ t. (t, (tt, (tt, (tt, tt)))))
 
 pub one-put_new : OneOutcome put_new.Kinds.ps put_new.Kinds.r put_new.Reads.Learnt
 one-put_new _ _ _ _ = one_value (λ t. (t.1, (t.0, (tt, (tt, (tt, (tt, tt)))))))

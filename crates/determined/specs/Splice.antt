@@ -20,8 +20,8 @@ one-tie_in _ _ _ _ = one_value (λ t. (tt, (t, (tt, (tt, (tt, (tt, (tt, tt))))))
 pub one-put_in : OneOutcome put_in.Kinds.ps put_in.Kinds.r put_in.Reads.Learnt
 one-put_in _ _ _ _ = one_value (λ t. (tt, (t, (tt, (tt, (tt, (tt, tt)))))))
 
-pub one_spot : OneOutcome spot.Kinds.ps spot.Kinds.r spot.Reads.Learnt
-one_spot _ _ _ _ = one_value (λ t. (t, (tt, (tt, (tt, (tt, tt))))))
+pub one-spot : OneOutcome spot.Kinds.ps spot.Kinds.r spot.Reads.Learnt
+one-spot _ _ _ _ = one_value (λ t. (t, (tt, (tt, (tt, (tt, tt))))))
 
 pub one-detach_ready : OneOutcome detach_ready.Kinds.ps detach_ready.Kinds.r detach_ready.Reads.Learnt
 one-detach_ready _ _ _ _ = one_value (λ t. (t.1, (t.0, (tt, (tt, tt)))))

@@ -4,7 +4,7 @@
 --   Demand2.done_exactly, change-right   the changes: accepted exactly where they may be, and the forest after them is the rule's
 --   Demand2.set-stores, validator_exact, read_found, list_written, walk-yields-edges, .. , saved_loads, batch-does   the other calls
 --   Code.does-NAME, FaceCode.does-NAME   the public functions, and those of the face, do these very calls, by their own statements
---   Refuted.NAME-fails      wrong programs, of each a statement that is false of it
+--   Refuted.NAME_fails      wrong programs, of each a statement that is false of it
 -- The files named Laws have the proofs below them.
 -- CallLaws, CommandLaws, Demand1, Demand2 and Refuted stand in proofs/.
 pub mod Every
