@@ -27,6 +27,11 @@ fn main() {
         .map_or("unknown", |l| l.split(": ").nth(1).unwrap_or(""))
         .to_string();
     println!("{rounds} rounds; {model}, {cores} processors; load average {}", text("/proc/loadavg").trim());
+    // As rust/run starts its programs, and tools/run then too.
+    let emulator: Vec<String> = std::env::var("EMULATOR").into_iter().filter(|e| !e.is_empty()).collect();
+    if let [name] = &emulator[..] {
+        println!("Both sides are x86-64 programs under {name}: a time says nothing, a ratio little.");
+    }
     let named: Vec<String> = std::env::args().skip(2).collect();
     let wanted = |table: &str| named.is_empty() || named.iter().any(|n| n == table);
     let mut aims = timing::Aims::default();
@@ -41,7 +46,8 @@ fn main() {
         reading::tables(rounds, &mut aims);
     }
     if wanted("program") {
-        program::table(rounds, &["target/rust/program".into()], &["tools/run".into(), "lift".into()], &mut aims);
+        let theirs = [emulator, vec!["target/rust/program".into()]].concat();
+        program::table(rounds, &theirs, &["tools/run".into(), "lift".into()], &mut aims);
     }
     cache::print();
     aims.print();

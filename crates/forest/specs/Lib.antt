@@ -12,7 +12,7 @@
 --   Vectors.P6, Vectors.P7  document 01's examples
 -- Over views, with `live` for the nodes:
 --   Local.tests-sound, Local.sound-tests, Local.sound-ends   sound is: each node passes its tests, and predecessors end
---   Marks.scan-exact        the marking scan says yes exactly when every place comes to none
+--   follow: Marks.scan_exact   the marking scan says yes exactly when every place comes to none
 --   Build.built-holds, HoldSound.holds-sound   sound links hold a forest; a forest without cycles is sound
 --   Detach, Insert, Hoist, Grow, Subtree       the forest after each edit is held by the links after it
 --   Frees.frees             the freeing loop goes children first, left to right
