@@ -1,14 +1,14 @@
 -- The census: how many slots are live, free, spent and fresh, each counted by its own definition.
 -- Excluded: a free count that is the length of the free chain; a live count of all slots in use.
-use Rattle.std.specs.Prelude.{Bool, cond, ◌&&◌, List, ◌-◌, ℕ, zero, suc, ◌+◌, eqb, leb, length}
+use Rattle.std.specs.Prelude.{Bool, cond, ◌&&◌, List, ◌-◌, ℕ, zero, suc, ◌+◌, eqb, leb, length, Result, Ok, Err}
 use Rattle.link.specs.Ids.{stamp_of}
 use Rattle.link.specs.Words.{STAMP, capacity_of, word}
 use Rattle.link.specs.declared.header.Header.{Header}
-use Rattle.rules.specs.Answers.{DONE, reply}
+use Rattle.rules.specs.Answers.{DONE, reply, refusal_no}
+use Rattle.rules.specs.declared.answer.Refusal.{Refusal}
 use Rattle.rules.specs.declared.answer.Reply.{Reply}
 use Rattle.sound.specs.Guard.{scratch_after, guard_no, guarded_read}
 use Rattle.arena.specs.declared.census.Census.{Census}
-use Rattle.arena.specs.declared.census.Counted.{Counted}
 
 abbrev pub one_if : Bool → ℕ
 one_if b = cond b 1 0
@@ -47,11 +47,19 @@ census_of m h = record {
 }
 
 -- The number, and the census; a refusal gives four zeros.
+pub record Counted : Type 0 where
+  pub number : ℕ
+  pub census : Census
+
 abbrev pub counted : ℕ → Census → Counted
 counted number census = record { number = number; census = census }
 
 abbrev pub no_census : Census
 no_census = record { live = 0; free = 0; spent = 0; fresh = 0 }
+
+abbrev pub counted_of : Result Census Refusal → Counted
+counted_of (Ok census) = counted DONE census
+counted_of (Err refused) = counted (refusal_no refused) no_census
 
 unfoldable pub census_call : List ℕ → Header → List ℕ → List ℕ × Counted
 census_call m h scratch =

@@ -1,6 +1,6 @@
 -- The free chain: a creation takes its first slot, a freed slot joins at its end, and a spent slot never does.
 -- Excluded: handing out the latest freed slot; linking a slot at −32,768, which would be handed out once more.
-use Rattle.std.specs.Prelude.{cond, List, ℕ, eqb}
+use Rattle.std.specs.Prelude.{cond, List, ℕ, eqb, Option, Some, None}
 use Rattle.link.specs.Ids.{slot_of, stamp_of}
 use Rattle.link.specs.Stamps.{removed_bits}
 use Rattle.link.specs.Words.{STAMP, NUMBER, word, set_word}
@@ -22,6 +22,15 @@ pop_front m h =
     cond (eqb h.first 0) (popped 0 h)
     (let next = word m h.first NUMBER in
     popped h.first (header h.used next (last_left next h.last)))
+
+-- The same, and nothing where there is none.
+unfoldable pub pop_free : List ℕ → Header → Option Popped
+pop_free m h = cond (eqb h.first 0) None (Some (pop_front m h))
+
+-- 0 for none, and the header as it was.
+abbrev pub popped_of : Header → Option Popped → Popped
+popped_of h None = popped 0 h
+popped_of h (Some taken) = taken
 
 -- Slot s joins behind the last.
 unfoldable pub join_last : List ℕ → Header → ℕ → List ℕ × Header

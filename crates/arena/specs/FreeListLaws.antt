@@ -1,8 +1,10 @@
 -- Stamps stepped through their bits, as the code does it; and what taking and freeing a slot come to, by their cases.
-use Rattle.std.specs.Prelude.{◌≡◌, Bool, true, false, ◌-◌, ℕ, ◌+◌, ◌<◌, ◌≤◌, eqb, ℤ, length}
+use Rattle.std.specs.Prelude.{◌≡◌, refl, Bool, true, false, ◌-◌, ℕ, ◌+◌, ◌<◌, ◌≤◌, eqb, ℤ, length, Some, None}
 use Rattle.std.proofs.Common.{sym, ◌∙◌, arith, le-leb, eq-eqb, ne_eqb}
 use Rattle.std.proofs.Math.Path.{ap}
+use Rattle.std.proofs.Math.Decide.{ℕ_discrete}
 use mathlib.Core.List.{List}
+use Rattle.std.proofs.lemmas.Bool.Decides.{nat_tests}
 use Rattle.std.proofs.lemmas.Bool.{lt-leb}
 use Rattle.link.specs.Ids.{slot_of, stamp_of}
 use Rattle.link.specs.Stamps.{Live, Reusable, removed_stamp, reused_stamp, is_spent, bits_of, stamp_of_bits, removed_bits, reused_bits}
@@ -12,7 +14,8 @@ use Rattle.link.specs.WordLaws.{length-set_word}
 use Rattle.link.specs.declared.header.Header.{Header}
 use Rattle.rules.specs.Answers.{header}
 use Rattle.arena.specs.Nodes.{slot_at}
-use Rattle.arena.specs.FreeList.{popped, last_left, pop_front, join_last, free_node}
+use Rattle.arena.specs.FreeList.{popped, popped_of, last_left, pop_front, pop_free, join_last, free_node}
+use Rattle.arena.specs.declared.arena.Popped.{Popped}
 
 module _ (b : ℕ) where
   pub live-of_bits : b ≤ 32767 → Live (stamp_of_bits b)
@@ -26,6 +29,11 @@ module _ (b : ℕ) where
 
   pub stepped-reused : 32769 ≤ b → b ≤ 65535 → bits_of (reused_stamp (stamp_of_bits b)) ≡ reused_bits b
   stepped-reused h k = reused_bits_lem (stamp_of_bits b) (reusable-of_bits h k) ∙ ap reused_bits (stamp-bits b (omega arith))
+
+-- For a step of a stamp on its bits, and for the test whether it is spent.
+pub ruleset stamp_steps = (live-of_bits, reusable-of_bits, stepped-removed, stepped-reused)
+
+pub ruleset freed = (nat_tests, spent-of_bits)
 
 pub length-slot_at : (m : List ℕ) (s a b : ℕ) → length (slot_at m s a b) ≡ length m
 unfolding slot_at
@@ -73,3 +81,38 @@ module _ (m : List ℕ) (h : Header) where
     unfolding free_node
     free-joined e g =
         simp (sym bits_are, test_is ∙ e) (g ∙ ap (join_last m₁ h) slot ∙ ap (λ (x : List ℕ). join_last x h (slot_of id)) words_are)
+
+  pub free-none : h.first ≡ 0 → pop_free m h ≡ None
+  unfolding pop_free
+  free-none e = simp (eq-eqb h.first 0 e)
+
+  pub free-some : 0 < h.first → pop_free m h ≡ Some (pop_front m h)
+  unfolding pop_free
+  free-some p = simp (ne_eqb h.first 0 (λ (e : h.first ≡ 0). omega arith))
+
+  -- What was taken, or that nothing was, says whether the chain was empty.
+  pub taken-first : (taken : Popped) → pop_free m h ≡ Some taken → (0 < h.first) × (taken ≡ pop_front m h) × (taken.slot ≡ h.first)
+  taken-first taken e = by (ℕ_discrete h.first 0)
+    where
+      by : Dec (h.first ≡ 0) → (0 < h.first) × (taken ≡ pop_front m h) × (taken.slot ≡ h.first)
+      by (yes z) = let q = free-none z in absurd (cc)
+      by (no n) =
+          let p : 0 < h.first = omega arith in
+          let q = free-some p in
+          let t : taken ≡ pop_front m h = cc in
+          (p, t, ap (λ (x : Popped). x.slot) (t ∙ pop-some p))
+
+  pub none-first : pop_free m h ≡ None → h.first ≡ 0
+  none-first e = by (ℕ_discrete h.first 0)
+    where
+      by : Dec (h.first ≡ 0) → h.first ≡ 0
+      by (yes z) = z
+      by (no n) = let p : 0 < h.first = omega arith in let q = free-some p in absurd (cc)
+
+  -- One with none and the other with 0 say the same.
+  pub popped-free : popped_of h (pop_free m h) ≡ pop_front m h
+  popped-free = by (ℕ_discrete h.first 0)
+    where
+      by : Dec (h.first ≡ 0) → popped_of h (pop_free m h) ≡ pop_front m h
+      by (yes z) = rw (free-none z) (sym (pop_none z))
+      by (no n) = rw (free-some (omega arith)) refl

@@ -1,5 +1,6 @@
 -- What the tests of a single read and of set come to, by their cases; the slot of a node that is named lies within the memory.
-use Rattle.std.specs.Prelude.{◌≡◌, Bool, not, ℕ, ◌*◌, ◌<◌, ◌≤◌, length}
+use Rattle.std.specs.Prelude.{◌≡◌, Bool, not, ℕ, ◌*◌, ◌<◌, ◌≤◌, length, Result}
+use Rattle.std.specs.Result.{IsErrAnd}
 use Rattle.std.proofs.Math.Path.{refl, ap}
 use Rattle.std.proofs.Common.{sym, ◌∙◌, arith, eq-eqb, ne_eqb, lt-ltb, le-ltb, ltb-false}
 use Rattle.std.proofs.Math.Bool.{true, false}
@@ -10,7 +11,10 @@ use Rattle.link.specs.Words.{width, NUMBER, capacity_of, link, set_link}
 use Rattle.link.specs.Found.{found_b}
 use Rattle.link.specs.FoundLaws.{found_is}
 use Rattle.link.specs.declared.header.Header.{Header}
-use Rattle.rules.specs.Answers.{DONE, FRAME, REMOVED, refusal, reply}
+use Rattle.rules.specs.Answers.{DONE, FRAME, REMOVED, refusal, refusal_no, reply, reply_of, reply_done}
+use Rattle.rules.specs.declared.answer.Refusal.{Refusal}
+use Rattle.rules.specs.declared.answer.Reply.{Reply}
+use Rattle.rules.proofs.AnswerLaws.{refused-not_done, reply-refused}
 use Rattle.sound.specs.GuardLaws.{capacity-fits}
 use Rattle.arena.specs.Reads.{named_no, read_word, set_number}
 
@@ -66,3 +70,13 @@ module _ (m : List ℕ) (h : Header) (id : ℕ) where
   pub set-refused : (v : ℕ) {n : ℕ} → n ≡ named_no m h id → (n ≡ DONE → ⊥) → (m, reply n 0) ≡ set_number m h id v
   unfolding set_number
   set-refused v e d = simp (ne_eqb (named_no m h id) DONE (λ (z : named_no m h id ≡ DONE). d (e ∙ z))) (ap (λ (x : ℕ). (m, reply x 0)) e)
+
+  -- The same at the exit of a `?`: r is what is handed back, and e the refusal in it.
+  pub read-err : (k : ℕ) (r : Result ℕ Refusal) (e : Refusal) → refusal_no e ≡ named_no m h id → IsErrAnd r (λ y. y ≡ e) → reply_of r ≡ read_word k m h id
+  read-err k r e n w = reply-refused (λ n. n) r e w ∙ read-refused k n (refused-not_done e)
+
+  pub set-err : (v : ℕ) (r : Result Unit Refusal) (e : Refusal) → refusal_no e ≡ named_no m h id → IsErrAnd r (λ y. y ≡ e) → (m, reply_done r) ≡ set_number m h id v
+  set-err v r e n w = ap (λ (x : Reply). (m, x)) (reply-refused (λ _. 0) r e w) ∙ set-refused v n (refused-not_done e)
+
+-- For what names one identifier.
+pub ruleset naming = (named-frame, named-done, named-removed, read_done, set-done)

@@ -1,14 +1,14 @@
 // The census, counted by stamp over the slots in use.
 ghost use Rattle.std.specs.Prelude.{◌≡◌, ◌*◌, ◌≤◌, length};
 ghost use Rattle.link.specs.Words.{width, capacity_of};
-ghost use Rattle.arena.specs.Census.{one_if, slots_that, between, stamp_in, census_of};
+ghost use Rattle.arena.specs.Census.{slots_that, stamp_in, census_of};
 
 use link::header::Header;
 use link::id::stamp_of;
 use link::words::{Slot, capacity, get_word};
 
 // Live; removed and not spent; spent; never used.
-#[derive(Clone, Copy)]
+#[derive(Clone, Copy, Debug, PartialEq, Eq)]
 pub struct Census {
     pub live: u32,
     pub free: u32,
@@ -16,41 +16,18 @@ pub struct Census {
     pub fresh: u32,
 }
 
-// A number of the table with the census; with four zeros where it refuses.
-#[derive(Clone, Copy)]
-pub struct Counted {
-    pub number: u32,
-    pub census: Census,
-}
-
-// 1 where bits lie from low to high, else 0.
-fn one_in(bits: u32, low: u32, high: u32) -> u32
-    ensures { result ≡ one_if (between low high bits) }
-{
-    if bits < low {
-        return 0;
-    }
-    if high < bits {
-        return 0;
-    }
-    1
-}
-
 // How many slots in use have a stamp whose 16 bits lie from low to high.
 fn count_stamps(words: &[u32], used: u32, low: u32, high: u32) -> u32
     requires { used * width ≤ length words.now }
     ensures { result ≡ slots_that (stamp_in low high words.now) used }
 {
-    let mut count: u32 = 0;
-    let mut slot = used;
-    while 0 < slot {
-        count += one_in(stamp_of(get_word(words, slot, Slot::STAMP)), low, high);
-        slot -= 1;
-    }
-    count
+    (1..=used)
+        .filter(|slot| (low..=high).contains(&stamp_of(get_word(words, *slot, Slot::STAMP))))
+        .count() as u32
 }
 
 // The work of the live count.
+#[tactic(auto, unfolding(crate::specs::Census::census_of))]
 pub fn count_live(words: &[u32], h: Header) -> u32
     requires { h.used * width ≤ length words.now }
     ensures { result ≡ (census_of words.now h).live }
@@ -59,6 +36,7 @@ pub fn count_live(words: &[u32], h: Header) -> u32
 }
 
 // The work of the census.
+#[tactic(auto, unfolding(crate::specs::Census::census_of))]
 pub fn count_census(words: &[u32], h: Header) -> Census
     requires { h.used ≤ capacity_of (length words.now) }
     ensures { result ≡ census_of words.now h }

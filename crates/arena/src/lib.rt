@@ -3,6 +3,7 @@
 
 #![tactic(auto)]
 
+// Words, header and scratch stay parameters of their own: C lends them so, and the definitions of specs/ take them so.
 pub mod arena;
 pub mod census;
 pub mod node;

@@ -3,3 +3,4 @@ pub mod Batch
 pub mod Performing
 pub mod PerformLaws
 pub mod BatchLaws
+pub mod Answered

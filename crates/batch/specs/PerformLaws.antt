@@ -1,6 +1,6 @@
 -- The loop over the commands: where it stands, one more command, and its end.
 -- From the definitions alone, with what one command leaves.
-use Rattle.std.specs.Prelude.{◌≡◌, refl, true, ℕ, zero, suc, ◌+◌, ◌-◌, ◌*◌, ◌<◌, ◌≤◌, set}
+use Rattle.std.specs.Prelude.{◌≡◌, refl, None, ℕ, zero, suc, ◌+◌, ◌-◌, ◌*◌, ◌<◌, ◌≤◌, set}
 use Rattle.std.proofs.Math.Path.{sym, ap}
 use Rattle.std.proofs.Common.{◌∙◌, subst, sub-one, length-set, take-append-drop, length-append, take-suc-set, drop-set-lt, drop-drop, length-take-le}
 use mathlib.Core.List.{List, [], ◌∷◌, ◌++◌, append_assoc, append-nil}
@@ -143,7 +143,7 @@ module _ (whole : After) (n : ℕ) (trace list₀ : List ℕ) (room : 2 * n ≤ 
 
   -- handed over where a command found memory ready: what is left is done from there
   pub performing-rest : {c : Command} {m' s' m'' s'' l'' : List ℕ} {r : Begun} {p : Performed} → i < n → c ≡ command_at trace (i * size)
-      → Starts (commanded c) m h s m' s' r → r.ready ≡ true
+      → Starts (commanded c) m h s m' s' r → r.reply ≡ None
       → Performs (before (take (2 * i) list) (performed (n - i) trace (i * size) m' h s')) list m'' s'' l'' p → Performs whole list₀ m'' s'' l'' p
   unfolding written
   performing-rest {c} {m'} {s'} {m''} {s''} {l''} {r} {p} l e S f Q = record {

@@ -2,6 +2,8 @@
 
 #![tactic(auto)]
 
+// Words, header and scratch stay parameters of their own: C lends the words apart from the header, which goes back by value. A type that
+// held them would hold a reference, and contracts over it would be assertions of the logic, as those of `Walker`.
 pub mod batch;
 pub mod perform;
 pub mod trace;

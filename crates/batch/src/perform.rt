@@ -5,12 +5,12 @@ ghost use Rattle.batch.specs.Trace.{size};
 ghost use Rattle.batch.specs.Batch.{performed};
 ghost use Rattle.batch.specs.Performing.{before, Performs};
 
-use crate::trace::{Trace, command_at};
+use crate::trace::{SIZE, command_at};
 use command::act::act;
-use command::code::Code;
-use command::known::{Known, ready};
+use command::known::Known;
 use command::start::start;
 use link::header::Header;
+use rules::answer::Reply;
 
 // What is left of the commands done: the header, and what is known of the memory.
 #[derive(Clone, Copy)]
@@ -19,13 +19,15 @@ pub struct Performed {
     pub known: Known,
 }
 
+// Trace and list come whole, with how many commands count: so the definition `performed` takes the trace, and a caller lends its whole list.
+
 // The i-th answer: two words of the list.
-pub fn put_answer(list: &mut [u32], i: usize, number: u32, res: u32)
+pub fn put_answer(list: &mut [u32], i: usize, reply: Reply)
     requires { 2 * i + 2 ≤ length list.old }
-    ensures { list.new ≡ set (set list.old (2 * i) number) (2 * i + 1) res }
+    ensures { list.new ≡ set (set list.old (2 * i) reply.number) (2 * i + 1) reply.result }
 {
-    list[2 * i] = number;
-    list[2 * i + 1] = res;
+    list[2 * i] = reply.number;
+    list[2 * i + 1] = reply.result;
 }
 
 // The commands from one on, up to the n-th, on memory that is known to be ready: nothing is examined.
@@ -42,32 +44,23 @@ fn perform_ready(
     requires { Knows words.old h scratch.old (ready clean) × (from ≤ n) × (n * size ≤ length trace.now) × (2 * n ≤ length list.old) }
     ensures { Performs (before (take (2 * from) list.old) (performed (n - from) trace.now (from * size) words.old h scratch.old)) list.old words.new scratch.new list.new result }
 {
-    let arguments = Code::ARGUMENTS;
-    let limits = Code::LIMITS;
-    let kinds = Code::KINDS;
-    let details = Code::DETAILS;
     let mut header = h;
     let mut zeros = clean;
-    let mut next = from;
-    while next < n {
-        let c = command_at(trace, next * Trace::SIZE);
-        let acted = act(
-            words, header, scratch, zeros, &arguments, &limits, &kinds, &details, c,
-        );
+    for next in from..n {
+        let c = command_at(trace, next * SIZE);
+        let acted = act(words, header, scratch, zeros, c);
         let answer = acted.answer;
-        put_answer(list, next, answer.number, answer.result);
-        let after = answer.header;
-        header = Header {
-            used: after.used,
-            first: after.first,
-            last: after.last,
+        let reply = Reply {
+            number: answer.number,
+            result: answer.result,
         };
+        put_answer(list, next, reply);
+        header = answer.header;
         zeros = acted.clean;
-        next += 1;
     }
     Performed {
         header,
-        known: ready(zeros),
+        known: Known::ready(zeros),
     }
 }
 
@@ -85,26 +78,15 @@ pub fn perform(
     requires { Knows words.old h scratch.old known × (n * size ≤ length trace.now) × (2 * n ≤ length list.old) }
     ensures { Performs (performed n trace.now 0 words.old h scratch.old) list.old words.new scratch.new list.new result }
 {
-    let arguments = Code::ARGUMENTS;
-    let limits = Code::LIMITS;
     let mut knows = known;
-    let mut i = 0;
-    while i < n {
-        let c = command_at(trace, i * Trace::SIZE);
-        let begun = start(words, h, scratch, knows, &arguments, &limits, c);
-        let known = begun.known;
-        if begun.ready {
-            return perform_ready(words, h, scratch, known.clean, trace, i, n, list);
-        }
-        let reply = begun.reply;
-        put_answer(list, i, reply.number, reply.result);
-        let verdict = known.verdict;
-        knows = Known {
-            looked: known.looked,
-            verdict,
-            clean: known.clean,
+    for i in 0..n {
+        let c = command_at(trace, i * SIZE);
+        let begun = start(words, h, scratch, knows, c);
+        let Some(reply) = begun.reply else {
+            return perform_ready(words, h, scratch, begun.known.clean, trace, i, n, list);
         };
-        i += 1;
+        put_answer(list, i, reply);
+        knows = begun.known;
     }
     Performed {
         header: h,

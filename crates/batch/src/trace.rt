@@ -5,13 +5,8 @@ ghost use Rattle.batch.specs.Trace.{size, command_at, answers_of};
 use command::command::Command;
 use little_endian::number::get_32;
 
-#[derive(Clone, Copy)]
-pub struct Trace(pub usize);
-
-impl Trace {
-    // Bytes to a command.
-    pub const SIZE: usize = 12;
-}
+// Bytes to a command.
+pub const SIZE: usize = 12;
 
 // The command whose bytes begin at a place.
 pub fn command_at(trace: &[u8], at: usize) -> Command
@@ -31,8 +26,5 @@ pub fn command_at(trace: &[u8], at: usize) -> Command
 pub fn answers_of(length: usize) -> usize
     ensures { result ≡ answers_of length }
 {
-    if length % Trace::SIZE == 0 {
-        return length / Trace::SIZE;
-    }
-    length / Trace::SIZE + 1
+    length.div_ceil(SIZE)
 }

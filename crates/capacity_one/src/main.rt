@@ -3,48 +3,42 @@
 
 #![tactic(auto)]
 
-use arena::arena::new_node;
+use arena::arena::{clear, new_node};
 use link::header::Header;
 use removal::removal::checked_remove;
-use rules::answer::Answer;
+use rules::answer::{Answer, Refusal};
 use std::io;
 
-// The number answered and its result.
-fn show(rt: &HostRuntime, answer: Answer) -> io::Result<()> {
-    println!(rt; " {} {}", answer.number, answer.result)
+// What was called, the number answered and its result.
+fn show(rt: &HostRuntime, call: &str, answer: Answer) -> io::Result<()> {
+    println!(rt; "{call}: {} {}", answer.number, answer.result)
 }
 
 // Makes a node and removes it, so many times, from an empty arena.
-fn make_and_remove(words: &mut [u32], scratch: &mut [u32], times: u32) -> Header {
-    let mut h = Header {
-        used: 0,
-        first: 0,
-        last: 0,
-    };
-    let mut left = times;
-    while 0 < left {
-        let made = new_node(words, h, scratch, left);
-        let removed = checked_remove(words, made.header, scratch, made.result);
-        h = removed.header;
-        left -= 1;
+fn make_and_remove(words: &mut [u32], scratch: &mut [u32], times: u32) -> Result<Header, Refusal> {
+    let mut h = clear();
+    for number in 0..times {
+        let made = new_node(words, h, scratch, number)?;
+        h = checked_remove(words, made.header, scratch, made.id)?;
     }
-    h
+    Ok(h)
 }
 
 fn main(rt: HostRuntime) -> io::Result<()> {
     let mut words = [0u32; 7];
     let mut scratch = [0u32; 2];
-    let h = make_and_remove(&mut words, &mut scratch, 32767);
-    print!(rt; "creation 32768:")?;
-    let made = new_node(&mut words, h, &mut scratch, 10);
-    show(&rt, made)?;
-    print!(rt; "its removal:")?;
-    let removed = checked_remove(&mut words, made.header, &mut scratch, made.result);
-    show(&rt, removed)?;
-    print!(rt; "removed again:")?;
-    let again = checked_remove(&mut words, removed.header, &mut scratch, made.result);
-    show(&rt, again)?;
-    print!(rt; "creation 32769:")?;
+    let h = match make_and_remove(&mut words, &mut scratch, 32767) {
+        Ok(h) => h,
+        Err(refusal) => return println!(rt; "refused: {refusal:?}"),
+    };
+    let made = Answer::of(h, new_node(&mut words, h, &mut scratch, 10));
+    show(&rt, "creation 32768", made)?;
+    let once = checked_remove(&mut words, made.header, &mut scratch, made.result);
+    let removed = Answer::of(made.header, once);
+    show(&rt, "its removal", removed)?;
+    let twice = checked_remove(&mut words, removed.header, &mut scratch, made.result);
+    let again = Answer::of(removed.header, twice);
+    show(&rt, "removed again", again)?;
     let full = new_node(&mut words, again.header, &mut scratch, 10);
-    show(&rt, full)
+    show(&rt, "creation 32769", Answer::of(again.header, full))
 }

@@ -1,11 +1,13 @@
--- The tables of kinds and details say what the table of calls says. By computing the tables.
+-- The tables of works, and of kinds and details, say what the table of calls says. By computing the tables.
 use Rattle.std.specs.Prelude.{◌≡◌, refl, Bool, true, false, cond, List, [], ◌∷◌, ℕ, zero, suc, ◌-◌, ◌≤◌, ◌<◌, ltb, length, get_or}
 use Rattle.std.proofs.Common.{sym, ap, ◌∙◌, arith, ltb-true}
 use Rattle.std.proofs.lemmas.Bool.{false≢true}
 use Rattle.std.proofs.Math.ListN.{get_or-eq_default}
 use Rattle.link.specs.Words.{width}
 use Rattle.command.specs.Calls.{call_table, call_of}
-use Rattle.command.specs.Kinds.{kind_table, detail_table, calls_by, call_by}
+use Rattle.command.specs.Kinds.{kind_table, detail_table, calls_by, call_by, call_as, work_table, WithinSlot}
+use Rattle.command.specs.declared.code.Work.{Work}
+use Rattle.command.specs.declared.code.Work.TheVariants as Do
 use Rattle.command.specs.declared.call.Call.{Call}
 use Rattle.command.specs.declared.call.Call.TheVariants.{Validate}
 
@@ -57,3 +59,38 @@ detail-word i = within detail_table i refl
 -- past the last kind
 pub kind-past : (kind detail : ℕ) → 12 ≤ kind → call_by kind detail ≡ Validate
 kind-past kind detail h = get_or-eq_default (calls_by detail) Validate h
+
+-- the works, each as the call that it stands for
+works : List Work → List Call
+works [] = []
+works (w ∷ ws) = call_as w ∷ works ws
+
+works_at : (ws : List Work) (i : ℕ) → i < length ws → get_or (works ws) i Validate ≡ call_as (get_or ws i (Do.Read 0))
+unfolding works
+works_at [] i h = absurd (omega arith)
+works_at (w ∷ ws) zero h = refl
+works_at (w ∷ ws) (suc i) h = works_at ws i (omega arith)
+
+works_tables : works work_table ≡ call_table
+unfolding works
+works_tables = refl
+
+pub work-call : (code : ℕ) → 0 < code → code ≤ 24 → call_as (get_or work_table (code - 1) (Do.Read 0)) ≡ call_of code
+work-call zero a b = absurd (omega arith)
+work-call (suc i) a b =
+    let h : i < 24 = omega arith in
+    let e : suc i - 1 ≡ i = omega arith in
+    rw e (sym (works_at work_table i h) ∙ ap (λ (cs : List Call). get_or cs i Validate) works_tables)
+
+abbrev EachWithin : List Work → Type 0
+EachWithin [] = Unit {0}
+EachWithin (w ∷ ws) = WithinSlot w × EachWithin ws
+
+-- and a read among them is of a word of a slot
+pub work-within : (i : ℕ) → WithinSlot (get_or work_table i (Do.Read 0))
+work-within i = all work_table (search arith) i
+  where
+    all : (ws : List Work) → EachWithin ws → (i : ℕ) → WithinSlot (get_or ws i (Do.Read 0))
+    all [] f i = omega arith
+    all (w ∷ ws) f zero = f.0
+    all (w ∷ ws) f (suc i) = all ws f.1 i

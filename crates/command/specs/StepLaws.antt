@@ -1,11 +1,12 @@
 -- One command where something is known of the memory: what the guard says, and what is known after each way out.
 -- From the laws of the guard and from what the changes keep.
-use Rattle.std.specs.Prelude.{◌≡◌, refl, true, false, List, ℕ, ◌*◌, ◌≤◌, length}
+use Rattle.std.specs.Prelude.{◌≡◌, refl, true, false, Result, List, ℕ, ◌*◌, ◌≤◌, length}
 use Rattle.std.proofs.Common.{sym, ap, ◌∙◌, arith}
 use Rattle.std.proofs.lemmas.Bool.{false≢true}
 use Rattle.link.specs.Words.{width, capacity_of}
 use Rattle.link.specs.declared.header.Header.{Header}
-use Rattle.rules.specs.Answers.{DONE, COMMAND, answer}
+use Rattle.rules.specs.Answers.{DONE, COMMAND, answer, number_in}
+use Rattle.rules.specs.declared.answer.Refusal.{Refusal}
 use Rattle.rules.specs.Sound.{Ready}
 use Rattle.rules.specs.declared.answer.Reply.{Reply}
 use Rattle.rules.specs.declared.answer.Answer.{Answer}
@@ -23,7 +24,7 @@ use Rattle.keeps.specs.Set.{set-length}
 use Rattle.command.specs.Codes.{acceptable}
 use Rattle.command.specs.Calls.{call_of}
 use Rattle.command.specs.Commands.{Outcome, changed, keeping, called, commanded}
-use Rattle.command.specs.Known.{gate, Knows, Looked, Gated, Did, settled}
+use Rattle.command.specs.Known.{gate, looked, verdict_in, Knows, Looked, Gated, Did, settled}
 use Rattle.command.specs.KnownLaws.{settled-room, looked-still}
 use Rattle.command.specs.Ready.{Stays, changed-stays, set-examined}
 use Rattle.command.specs.declared.call.Change.{Change}
@@ -42,7 +43,7 @@ pub ready-verdict : (m : List ℕ) (h : Header) → Ready m h → examined m h �
 ready-verdict m h R = ready-told (examined m h) ((examined-ready m h).1 R)
 
 -- nothing in use
-pub knows_fresh : (m s : List ℕ) {k : Known} → (k.looked ≡ true) × (k.verdict ≡ Is.Ready) × (k.clean ≡ 0) → Knows m cleared s k
+pub knows_fresh : (m s : List ℕ) {k : Known} → (looked k ≡ true) × (verdict_in k ≡ Is.Ready) × (k.clean ≡ 0) → Knows m cleared s k
 unfolding zeroed
 knows_fresh m s (l, v, z) = record {
   frame = λ _. omega arith;
@@ -60,7 +61,7 @@ module _ (m : List ℕ) (h : Header) (s : List ℕ) {no : ℕ} (e : no ≡ fit_n
       → (h.used ≤ 65535) × (h.used * width ≤ length m) × (2 * h.used ≤ length s) × Knows m h s k
   fit-look d K = let (a, b) = capacity-fits (length m) h.used (fits d).frame in (a, b, (fits d).room, K)
 
-  pub gated-fit : {s' : List ℕ} {k : Known} {g : Gate} → no ≡ DONE → Looked m h s s' k → (g.number ≡ ready_no k.verdict) × (g.known ≡ k)
+  pub gated-fit : {s' : List ℕ} {k : Known} {g : Gate} → no ≡ DONE → Looked m h s s' k → (number_in g.said ≡ ready_no (verdict_in k)) × (g.known ≡ k)
       → Gated m h s s' g
   gated-fit d L (n, q) = record {
     scratch = L.zero ∙ sym (scratch-fits m h s (fits d));
@@ -68,23 +69,23 @@ module _ (m : List ℕ) (h : Header) (s : List ℕ) {no : ℕ} (e : no ≡ fit_n
     knows = rw q L.knows;
   }
 
-  pub gated-unfit : {k : Known} → (no ≡ DONE → ⊥) → Knows m h s k → Gated m h s s (gate no k)
-  gated-unfit n K = record {
+  pub gated-unfit : {k : Known} (said : Result Unit Refusal) → number_in said ≡ no → (no ≡ DONE → ⊥) → Knows m h s k → Gated m h s s (gate said k)
+  gated-unfit said q n K = record {
     scratch = sym (scratch-unfit m h s (λ q. n (e ∙ q)));
-    number = e ∙ sym (guard-unfit m h (length s) (λ q. n (e ∙ q)));
+    number = q ∙ e ∙ sym (guard-unfit m h (length s) (λ q. n (e ∙ q)));
     knows = K;
   }
 
 -- where a look would find nothing to do, memory fits and the guard goes by the verdict
 pub gated-settled : (m : List ℕ) (h : Header) (s : List ℕ) {k : Known} {g : Gate} → Knows m h s k → settled k h.used ≡ true
-    → (g.number ≡ ready_no k.verdict) × (g.known ≡ k) → Gated m h s s g
+    → (number_in g.said ≡ ready_no (verdict_in k)) × (g.known ≡ k) → Gated m h s s g
 gated-settled m h s {k} K e n =
     let (l, r) = settled-room k s h.used e K.fits in
     let f : Fits (length m) h.used (length s) = record { frame = K.frame l; room = r } in
     gated-fit m h s refl ((fit-done (length m) h.used (length s)).1 f) (looked-still m h s K e) n
 
 -- what the guard let through is ready and fits
-pub gated-ready : (m : List ℕ) (h : Header) (s : List ℕ) {s' : List ℕ} {g : Gate} → Gated m h s s' g → g.number ≡ DONE
+pub gated-ready : (m : List ℕ) (h : Header) (s : List ℕ) {s' : List ℕ} {g : Gate} → Gated m h s s' g → number_in g.said ≡ DONE
     → Ready m h × (h.used ≤ capacity_of (length m))
 gated-ready m h s G d =
     let w = (guard-ready m h (length s)).0 (passed m h s G.scratch G.number d) in
@@ -112,13 +113,13 @@ module _ (m : List ℕ) (h : Header) (s : List ℕ) where
     };
   }
 
-  pub did-refused : {s' : List ℕ} {g : Gate} (work : List ℕ × Answer) → Gated m h s s' g → (g.number ≡ DONE → ⊥)
-      → Did (guarded m h s work) m s' (answer h g.number 0) g.known
+  pub did-refused : {s' : List ℕ} {g : Gate} (work : List ℕ × Answer) → Gated m h s s' g → (number_in g.said ≡ DONE → ⊥)
+      → Did (guarded m h s work) m s' (answer h (number_in g.said) 0) g.known
   did-refused work G n = record { same = guarded-refused m h s G.scratch G.number work n; knows = G.knows }
 
 -- ready memory stays ready
 pub did_made : (m : List ℕ) (h : Header) (s : List ℕ) {m' s' : List ℕ} {g : Gate} {r : Answer} (change : Change) (a b : ℕ)
-    → Gated m h s s' g → g.number ≡ DONE → (m', r) ≡ changed change a b m h
+    → Gated m h s s' g → number_in g.said ≡ DONE → (m', r) ≡ changed change a b m h
     → Did (guarded m h s (changed change a b m h)) m' s' r g.known
 did_made m h s {m'} {s'} {g} {r} change a b G n e = record {
   same = guarded-done m h s G.scratch G.number n e;

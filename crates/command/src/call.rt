@@ -1,4 +1,4 @@
-// Which call a code names: single codes and ranges of like codes. All others are refused before (`command::step`).
+// Which call a code names: single codes and ranges of like codes. All others are refused before (`start`, `act`).
 ghost use Rattle.std.specs.Prelude.{◌≡◌};
 ghost use Rattle.command.specs.Calls.{place_of, word_of, call_of};
 
@@ -7,7 +7,7 @@ use link::words::Slot;
 use moves::place::Place;
 
 // The calls that change the tree and need ready memory.
-#[derive(Clone, Copy)]
+#[derive(Clone, Copy, Debug, PartialEq, Eq)]
 pub enum Change {
     New,
     Move(Place),
@@ -20,7 +20,7 @@ pub enum Change {
 }
 
 // What a command can ask for. A read is of the word that it gives.
-#[derive(Clone, Copy)]
+#[derive(Clone, Copy, Debug, PartialEq, Eq)]
 pub enum Call {
     Make(Change),
     Read(u32),
@@ -30,7 +30,7 @@ pub enum Call {
     Validate,
 }
 
-// The place of the n-th of four like codes.
+// The place of the n-th of four like codes. By number, as the definition `place_of`: codes are numbers of document 01 that stand in runs.
 pub fn place_of(n: u8) -> Place
     ensures { result ≡ place_of n }
 {
@@ -42,7 +42,7 @@ pub fn place_of(n: u8) -> Place
     }
 }
 
-// The word that the n-th of the five link reads gives; past these, the number.
+// The word that the n-th of the five link reads gives; past these, the number. By number, as the definition `word_of`.
 fn word_of(n: u8) -> u32
     ensures { result ≡ word_of n }
 {

@@ -1,10 +1,14 @@
 // The code table: how many arguments each code uses, what leads to its work, and whether a command of a known code is acceptable.
-ghost use Rattle.std.specs.Prelude.{◌≡◌, ◌<◌, ◌≤◌};
-ghost use Rattle.command.specs.Codes.{argument_table, limit_table, arguments_of, acceptable};
+ghost use Rattle.std.specs.Prelude.{◌≡◌, ◌<◌, ◌≤◌, true};
+ghost use Rattle.command.specs.Codes.{arguments_of, acceptable};
+ghost use Rattle.command.specs.Kinds.{call_as};
+ghost use Rattle.command.specs.Acts.{free_b};
 
-// The codes of document 01, 1 to 24.
-#[derive(Clone, Copy)]
-pub struct Code(pub u8);
+use link::words::Slot;
+use moves::place::Place;
+
+// The codes of document 01, 1 to 24. Only the constants are used: document 01 wants a match on the number.
+pub struct Code;
 
 impl Code {
     pub const LAST: u8 = 24;
@@ -47,101 +51,81 @@ impl Code {
     ];
 
     // The greatest first and second argument of a code that uses none, one or two: an argument that is not used is zero.
-    pub const LIMITS: [u32; 6] = [0, 0, 4294967295, 0, 4294967295, 4294967295];
-
-    // The kind of each code, and its detail: the place of a move or a value form, from 0 on, and the word of a read.
-    pub const KINDS: [u8; 24] = [
-        Kind::NEW,
-        Kind::READ,
-        Kind::SET,
-        Kind::MOVE,
-        Kind::MOVE,
-        Kind::MOVE,
-        Kind::MOVE,
-        Kind::DETACH,
-        Kind::DETACH_CHILDREN,
-        Kind::REMOVE,
-        Kind::REMOVE_SUBTREE,
-        Kind::REMOVE_CHILDREN,
-        Kind::READ,
-        Kind::READ,
-        Kind::READ,
-        Kind::READ,
-        Kind::READ,
-        Kind::LIVE_COUNT,
-        Kind::DESCENDANT_COUNT,
-        Kind::VALIDATE,
-        Kind::VALUE,
-        Kind::VALUE,
-        Kind::VALUE,
-        Kind::VALUE,
-    ];
-
-    pub const DETAILS: [u8; 24] = [
-        0, 1, 0, 0, 1, 2, 3, 0, 0, 0, 0, 0, 2, 5, 6, 4, 3, 0, 0, 0, 0, 1, 2, 3,
-    ];
+    pub const LIMITS: [u32; 6] = [0, 0, u32::MAX, 0, u32::MAX, u32::MAX];
 }
 
-// What a command does, apart from its detail: one jump by it leads to the work. Reads and set stand first: they need neither scratch
-// nor ready memory.
-#[derive(Clone, Copy)]
-pub struct Kind(pub u8);
-
-impl Kind {
-    pub const READ: u8 = 0;
-
-    pub const SET: u8 = 1;
-
-    pub const NEW: u8 = 2;
-
-    pub const MOVE: u8 = 3;
-
-    pub const VALUE: u8 = 4;
-
-    pub const DETACH: u8 = 5;
-
-    pub const DETACH_CHILDREN: u8 = 6;
-
-    pub const REMOVE: u8 = 7;
-
-    pub const REMOVE_SUBTREE: u8 = 8;
-
-    pub const REMOVE_CHILDREN: u8 = 9;
-
-    pub const LIVE_COUNT: u8 = 10;
-
-    pub const DESCENDANT_COUNT: u8 = 11;
-
-    pub const VALIDATE: u8 = 12;
+// A call without its arguments, as `call::Call` has it but in one level, so that one jump leads to what is done: a match on `Call` is one
+// at each level. `Call` stays beside it: the definitions of the commands speak of it, and `call_as` says which one a work is.
+#[derive(Clone, Copy, Debug, PartialEq, Eq)]
+pub enum Work {
+    Read(u32),
+    Set,
+    New,
+    Move(Place),
+    Value(Place),
+    Detach,
+    DetachChildren,
+    Remove,
+    RemoveSubtree,
+    RemoveChildren,
+    LiveCount,
+    DescendantCount,
+    Validate,
 }
+
+impl Work {
+    // Reads and set need neither scratch nor ready memory.
+    pub fn is_free(self) -> bool
+        ensures { result ≡ free_b (call_as self) }
+    {
+        matches!(self, Work::Read(_) | Work::Set)
+    }
+}
+
+// What each code does, from 1 on. A static: a constant of this type is laid out anew at each use.
+pub static WORK: [Work; 24] = [
+    Work::New,
+    Work::Read(Slot::NUMBER),
+    Work::Set,
+    Work::Move(Place::Append),
+    Work::Move(Place::Prepend),
+    Work::Move(Place::After),
+    Work::Move(Place::Before),
+    Work::Detach,
+    Work::DetachChildren,
+    Work::Remove,
+    Work::RemoveSubtree,
+    Work::RemoveChildren,
+    Work::Read(Slot::PARENT),
+    Work::Read(Slot::FIRST),
+    Work::Read(Slot::LAST),
+    Work::Read(Slot::NEXT),
+    Work::Read(Slot::PREVIOUS),
+    Work::LiveCount,
+    Work::DescendantCount,
+    Work::Validate,
+    Work::Value(Place::Append),
+    Work::Value(Place::Prepend),
+    Work::Value(Place::After),
+    Work::Value(Place::Before),
+];
 
 // How many arguments a code uses, by the table.
-pub fn arguments_of(table: &[u8; 24], code: u8) -> u8
-    requires { (table.now ≡ argument_table) × (0 < code) × (code ≤ 24) }
+pub fn arguments_of(code: u8) -> u8
+    requires { (0 < code) × (code ≤ 24) }
     ensures { result ≡ arguments_of code }
 {
-    table[(code - 1) as usize]
+    Code::ARGUMENTS[(code - 1) as usize]
 }
 
-// Of a known code: whether its three unused bytes are zero, and each argument that it does not use. The tables are lent, so
-// that a batch lays them out once.
-pub fn is_acceptable(
-    table: &[u8; 24],
-    limits: &[u32; 6],
-    code: u8,
-    unused: u32,
-    a: u32,
-    b: u32,
-) -> bool
-    requires { (table.now ≡ argument_table) × (limits.now ≡ limit_table) × (0 < code) × (code ≤ 24) }
+// Of a known code: whether its three unused bytes are zero, and each argument that it does not use.
+pub fn is_acceptable(code: u8, unused: u32, a: u32, b: u32) -> bool
+    requires { (0 < code) × (code ≤ 24) }
     ensures { result ≡ acceptable code unused a b }
 {
     if unused != 0 {
         return false;
     }
-    let at = 2 * (arguments_of(table, code) as usize);
-    if limits[at] < a {
-        return false;
-    }
-    b <= limits[at + 1]
+    let at = 2 * (arguments_of(code) as usize);
+    a <= Code::LIMITS[at] && b <= Code::LIMITS[at + 1]
 }

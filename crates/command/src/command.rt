@@ -3,14 +3,13 @@ ghost use Rattle.std.specs.Prelude.{◌≡◌};
 ghost use Rattle.command.specs.Commands.{commanded};
 
 use crate::act::act;
-use crate::code::Code;
-use crate::known::nothing;
+use crate::known::Known;
 use crate::start::start;
 use link::header::Header;
 use rules::answer::Answer;
 
 // Twelve bytes of a trace: the code, its three unused bytes as one number, and the two arguments.
-#[derive(Clone, Copy)]
+#[derive(Clone, Copy, Debug, PartialEq, Eq)]
 pub struct Command {
     pub code: u8,
     pub unused: u32,
@@ -18,34 +17,17 @@ pub struct Command {
     pub b: u32,
 }
 
-// One command on any memory.
+// One command on any memory. An `Answer` and no `Result`, as the definition `commanded`; a reply gets its header here alone.
 pub fn one_command(words: &mut [u32], h: Header, scratch: &mut [u32], c: Command) -> Answer
     ensures { (words.new, scratch.new, result) ≡ commanded c words.old h scratch.old }
 {
-    let arguments = Code::ARGUMENTS;
-    let limits = Code::LIMITS;
-    let begun = start(words, h, scratch, nothing(), &arguments, &limits, c);
-    if begun.ready {
-        let known = begun.known;
-        let kinds = Code::KINDS;
-        let details = Code::DETAILS;
-        let acted = act(
-            words,
-            h,
-            scratch,
-            known.clean,
-            &arguments,
-            &limits,
-            &kinds,
-            &details,
-            c,
-        );
-        return acted.answer;
-    }
-    let reply = begun.reply;
-    Answer {
-        header: h,
-        number: reply.number,
-        result: reply.result,
+    let begun = start(words, h, scratch, Known::nothing(), c);
+    match begun.reply {
+        Some(reply) => Answer {
+            header: h,
+            number: reply.number,
+            result: reply.result,
+        },
+        None => act(words, h, scratch, begun.known.clean, c).answer,
     }
 }

@@ -1,8 +1,6 @@
 // A command where memory is not known to be ready. It is answered, or the examination finds memory ready and it is still to be done.
 ghost use Rattle.std.specs.Prelude.{◌≡◌};
-ghost use Rattle.rules.specs.Answers.{reply};
-ghost use Rattle.sound.specs.Guard.{ready_no};
-ghost use Rattle.command.specs.Codes.{argument_table, limit_table};
+ghost use Rattle.rules.specs.Answers.{reply, refusal_no};
 ghost use Rattle.command.specs.Commands.{called, commanded};
 ghost use Rattle.command.specs.Known.{Knows, Gated};
 ghost use Rattle.command.specs.Acts.{replies, readies, Enters, Starts};
@@ -11,25 +9,24 @@ ghost use Rattle.command.specs.declared.call.Call.TheVariants as Calls;
 use crate::call::{Call, call_of};
 use crate::code::{Code, is_acceptable};
 use crate::command::Command;
-use crate::known::{Known, is_ready, is_settled, look};
+use crate::known::{Known, look};
 use arena::node::{read, set};
 use link::header::Header;
-use rules::answer::{Number, Reply};
-use sound::{fit, ready_number, sound_result};
+use rules::answer::{Refusal, Reply};
+use sound::{fit, ready};
 
-// What the guard says, and what is known then.
+// What the guard says, and what is known then. Known goes in and comes out by value, on a refusal too: so the definition `Gated` has it.
 #[derive(Clone, Copy)]
 pub struct Gate {
-    pub number: u32,
+    pub said: Result<(), Refusal>,
     pub known: Known,
 }
 
-// What comes of starting a command: its answer, but for the header, which stays; or memory is ready and the command is still to be done.
-// And what is known then.
+// What comes of starting a command: its answer, but for the header, which stays; or none, and memory is ready and the command is still to
+// be done. And what is known then. The definitions `replies` and `readies` answer this record, with the reply in numbers.
 #[derive(Clone, Copy)]
 pub struct Begun {
-    pub ready: bool,
-    pub reply: Reply,
+    pub reply: Option<Reply>,
     pub known: Known,
 }
 
@@ -37,41 +34,21 @@ fn replied(reply: Reply, known: Known) -> Begun
     ensures { result ≡ replies reply known }
 {
     Begun {
-        ready: false,
-        reply,
+        reply: Some(reply),
         known,
     }
 }
 
-fn refused(number: u32, known: Known) -> Begun
-    ensures { result ≡ replies (reply number 0) known }
+fn refused(refusal: Refusal, known: Known) -> Begun
+    ensures { result ≡ replies (reply (refusal_no refusal) 0) known }
 {
-    replied(Reply { number, result: 0 }, known)
+    replied(Reply::from(Err::<(), Refusal>(refusal)), known)
 }
 
 fn readied(known: Known) -> Begun
     ensures { result ≡ readies known }
 {
-    let reply = Reply {
-        number: Number::DONE,
-        result: 0,
-    };
-    Begun {
-        ready: true,
-        reply,
-        known,
-    }
-}
-
-// What the guard says of memory that fits, by the verdict.
-fn by_verdict(known: Known) -> Gate
-    ensures { (result.number ≡ ready_no known.verdict) × (result.known ≡ known) }
-{
-    let verdict = known.verdict;
-    Gate {
-        number: ready_number(verdict),
-        known,
-    }
+    Begun { reply: None, known }
 }
 
 // The guard of every call that needs ready memory; it tests nothing where that is settled, and examines only where nothing is known.
@@ -79,15 +56,25 @@ fn pass(words: &[u32], h: Header, scratch: &mut [u32], known: Known) -> Gate
     requires { Knows words.now h scratch.old known }
     ensures { Gated words.now h scratch.old scratch.new result }
 {
-    if is_settled(known, h.used) {
-        return by_verdict(known);
+    if let Some(verdict) = known.settled(h.used) {
+        return Gate {
+            said: ready(verdict),
+            known,
+        };
     }
-    let number = fit(words, h.used, scratch);
-    if number == Number::DONE {
-        let after = look(words, h, scratch, known);
-        return by_verdict(after);
+    match fit(words, h.used, scratch) {
+        Ok(()) => {
+            let seen = look(words, h, scratch, known);
+            Gate {
+                said: ready(seen.verdict),
+                known: Known::from(seen),
+            }
+        }
+        Err(refusal) => Gate {
+            said: Err(refusal),
+            known,
+        },
     }
-    Gate { number, known }
 }
 
 // Sound or not: the verdict, where memory fits.
@@ -95,30 +82,26 @@ fn judge(words: &[u32], h: Header, scratch: &mut [u32], known: Known) -> Begun
     requires { Knows words.now h scratch.old known }
     ensures { Starts (called Calls.Validate 0 0) words.now h scratch.old words.now scratch.new result }
 {
-    let number = fit(words, h.used, scratch);
-    if number == Number::DONE {
-        let after = look(words, h, scratch, known);
-        let verdict = after.verdict;
-        let reply = Reply {
-            number,
-            result: sound_result(verdict),
-        };
-        return replied(reply, after);
+    match fit(words, h.used, scratch) {
+        Ok(()) => {
+            let seen = look(words, h, scratch, known);
+            let reply = Reply::from(Ok(seen.verdict.is_sound()));
+            replied(reply, Known::from(seen))
+        }
+        Err(refusal) => refused(refusal, known),
     }
-    refused(number, known)
 }
 
-// A command that needs ready memory: refused, or memory is ready now.
+// A command that needs ready memory: refused, or memory is ready.
 fn enter(words: &[u32], h: Header, scratch: &mut [u32], known: Known) -> Begun
     requires { Knows words.now h scratch.old known }
     ensures { Enters words.now h scratch.old scratch.new result }
 {
     let gate = pass(words, h, scratch, known);
-    let known = gate.known;
-    if gate.number == Number::DONE {
-        return readied(known);
+    match gate.said {
+        Ok(()) => readied(gate.known),
+        Err(refusal) => refused(refusal, gate.known),
     }
-    refused(gate.number, known)
 }
 
 fn begin(
@@ -134,38 +117,28 @@ fn begin(
     ensures { Starts (called call a b) words.old h scratch.old words.new scratch.new result }
 {
     match call {
-        Call::Make(change) => enter(words, h, scratch, known),
-        Call::Read(k) => replied(read(words, h, a, k), known),
-        Call::Set => replied(set(words, h, a, b), known),
-        Call::LiveCount => enter(words, h, scratch, known),
-        Call::DescendantCount => enter(words, h, scratch, known),
+        Call::Make(_) | Call::LiveCount | Call::DescendantCount => enter(words, h, scratch, known),
+        Call::Read(k) => replied(Reply::from(read(words, h, a, k)), known),
+        Call::Set => replied(Reply::from(set(words, h, a, b)), known),
         Call::Validate => judge(words, h, scratch, known),
     }
 }
 
-// A command where memory is not known to be ready: it is answered, or memory is ready now and the command still to be done.
-pub fn start(
-    words: &mut [u32],
-    h: Header,
-    scratch: &mut [u32],
-    known: Known,
-    arguments: &[u8; 24],
-    limits: &[u32; 6],
-    c: Command,
-) -> Begun
-    requires { Knows words.old h scratch.old known × (arguments.now ≡ argument_table) × (limits.now ≡ limit_table) }
+// A command where memory is not known to be ready: it is answered, or memory is ready and the command still to be done.
+pub fn start(words: &mut [u32], h: Header, scratch: &mut [u32], known: Known, c: Command) -> Begun
+    requires { Knows words.old h scratch.old known }
     ensures { Starts (commanded c) words.old h scratch.old words.new scratch.new result }
 {
-    if is_ready(known) {
+    if known.is_ready() {
         return readied(known);
     }
     match c.code {
         Code::NEW..=Code::LAST => {
-            if is_acceptable(arguments, limits, c.code, c.unused, c.a, c.b) {
+            if is_acceptable(c.code, c.unused, c.a, c.b) {
                 return begin(words, h, scratch, known, call_of(c.code), c.a, c.b);
             }
-            refused(Number::COMMAND, known)
+            refused(Refusal::Command, known)
         }
-        _ => refused(Number::COMMAND, known),
+        _ => refused(Refusal::Command, known),
     }
 }

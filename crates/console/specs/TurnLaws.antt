@@ -4,7 +4,10 @@ use Rattle.std.specs.Prelude.{◌≡◌, refl, get_or, set, take, drop}
 use Rattle.std.proofs.Common.{sym, ◌∙◌, length-set, length-drop, take-suc, take-suc-set, take_at, drop-set-lt, drop-drop, get_or-drop}
 use Rattle.std.proofs.Math.Path.{ap}
 use mathlib.Core.List.{List, [], ◌∷◌, ◌++◌}
-use Prim.Native.Nat.{ℕ, suc, ◌+◌, ◌*◌, ◌/◌, ◌%◌, ◌<◌, ◌≤◌}
+use Prim.Native.Nat.{ℕ, suc, ◌+◌, ◌-◌, ◌*◌, ◌/◌, ◌%◌, ◌<◌, ◌≤◌}
+use Rattle.std.specs.List.{copy_within}
+use Rattle.std.proofs.Math.Seq.{paste}
+use Rattle.std.proofs.lemmas.List.Edits.{take-paste}
 use native.Mathlib.Omega.{arith}
 use Rattle.std.proofs.Math.ListN.{length}
 use Rattle.std.proofs.lemmas.List.Edits.{sets, sets-eq}
@@ -53,6 +56,16 @@ fronting-end from n bytes₀ bytes i F l =
     let u = F.upto in
     let e : n ≡ i = omega arith in
     rw e F.front
+
+-- the bytes of a cut-off command, moved to the front
+pub front_copied : (total : ℕ) (bytes : List ℕ) → total ≤ length bytes
+    → take (total % size) (copy_within bytes (total / size * size) total 0) ≡ take (total % size) (drop (total / size * size) bytes)
+front_copied total bytes h =
+    let e : total - total / size * size ≡ total % size = omega arith in
+    let l = length-drop (total / size * size) bytes in
+    let at : 0 + total % size ≡ total % size = omega arith in
+    rw e (ap (λ (k : ℕ). take k (paste bytes 0 (drop (total / size * size) bytes) (total % size))) (sym at)
+    ∙ take-paste bytes 0 (drop (total / size * size) bytes) (total % size) (omega arith) (omega arith))
 
 -- text stored from the first byte on is read back
 pub text-front : (xs out : List ℕ) → length xs ≤ length out → take (length xs) (sets out 0 xs) ≡ xs

@@ -6,7 +6,7 @@ ghost use Rattle.batch.specs.Batch.{performed};
 ghost use Rattle.console.specs.Turns.{Turns};
 
 use batch::perform::perform;
-use batch::trace::Trace;
+use batch::trace::SIZE;
 use command::known::Known;
 use lines::lines::put_lines;
 use link::header::Header;
@@ -20,19 +20,7 @@ pub struct Turn {
     pub left: usize,
 }
 
-// Bytes from a place on, moved to the front.
-fn to_front(bytes: &mut [u8], from: usize, n: usize)
-    requires { from + n ≤ length bytes.old }
-    ensures { take n bytes.new ≡ take n (drop from bytes.old) }
-{
-    let mut i = 0;
-    while i < n {
-        bytes[i] = bytes[from + i];
-        i += 1;
-    }
-}
-
-// The first `total` bytes have come.
+// The first `total` bytes have come. The bytes are lent whole: what is left of them is moved to their front.
 pub fn take_turn(
     words: &mut [u32],
     h: Header,
@@ -46,16 +34,14 @@ pub fn take_turn(
     requires { Knows words.old h scratch.old known × (total ≤ length bytes.old) × (2 * (total / size) ≤ length list.old) × (22 * (total / size) ≤ length out.old) }
     ensures { Turns total bytes.old (performed (total / size) bytes.old 0 words.old h scratch.old) words.new scratch.new bytes.new out.new result }
 {
-    let n = total / Trace::SIZE;
-    let left = total % Trace::SIZE;
+    let n = total / SIZE;
+    let left = total % SIZE;
     let done = perform(words, h, scratch, known, bytes, n, list);
     let text = put_lines(list, n, out);
-    to_front(bytes, n * Trace::SIZE, left);
-    let header = done.header;
-    let known = done.known;
+    bytes.copy_within(n * SIZE..total, 0);
     Turn {
-        header,
-        known,
+        header: done.header,
+        known: done.known,
         text,
         left,
     }

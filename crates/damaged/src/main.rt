@@ -7,55 +7,24 @@ mod images;
 
 ghost use Rattle.std.specs.Prelude.{◌<◌, ◌≤◌, length};
 
-use image::load::load;
+use image::load::{answered, load};
 use image::save::save;
-use link::header::Header;
+use rules::answer::Reply;
 use std::io;
 use std::io::Print;
 
+// By hand, since `from_digit` of std has small letters.
 fn letter(number: u32) -> u8 {
-    if number < 10 {
-        return (48 + number) as u8;
+    match number {
+        0..=9 => b'0' + number as u8,
+        10..=35 => b'A' + (number - 10) as u8,
+        _ => b'?',
     }
-    if number < 36 {
-        return (55 + number) as u8;
-    }
-    63
 }
 
-fn number(rt: &HostRuntime, n: u32) -> io::Result<()> {
-    print!(rt; " {n}")
-}
-
-fn header(rt: &HostRuntime, h: Header) -> io::Result<()> {
-    number(rt, h.used)?;
-    number(rt, h.first)?;
-    number(rt, h.last)
-}
-
-// The words, after a load.
-fn show(rt: &HostRuntime, words: &[u32]) -> io::Result<()> {
-    let mut i = 0;
-    while i < words.len() {
-        number(rt, words[i])?;
-        i += 1;
-    }
-    println!(rt)
-}
-
-// Whether the first bytes of `out` are those of an image.
-fn same(image: &[u8], out: &[u8]) -> bool {
-    if out.len() < image.len() {
-        return false;
-    }
-    let mut i = 0;
-    while i < image.len() {
-        if image[i] != out[i] {
-            return false;
-        }
-        i += 1;
-    }
-    true
+// The number of a load.
+fn loaded(image: &[u8], words: &mut [u32], scratch: &mut [u32]) -> u32 {
+    Reply::from(load(image, words, scratch)).number
 }
 
 // The image as it is: what load answers and leaves, and what save then answers and writes.
@@ -66,33 +35,28 @@ fn whole(
     scratch: &mut [u32],
     out: &mut [u8],
 ) -> io::Result<()> {
-    print!(rt; "loaded")?;
-    let a = load(image, words, scratch);
+    let a = answered(load(image, words, scratch));
     let h = a.header;
-    number(rt, a.number)?;
-    header(rt, h)?;
-    print!(rt; "\nwords")?;
-    show(rt, words)?;
-    let r = save(words, h, scratch, out);
-    print!(rt; "saved")?;
-    number(rt, r.number)?;
-    number(rt, r.result)?;
-    if same(image, out) {
-        println!(rt; " the same bytes")
+    print!(rt;
+        "loaded {} {} {} {}\nwords",
+        a.number, h.used, h.first, h.last
+    )?;
+    for word in words.iter() {
+        print!(rt; " {word}")?;
+    }
+    let r = Reply::from(save(words, h, scratch, out));
+    let bytes = if out.starts_with(image) {
+        "the same"
     } else {
-        println!(rt; " other bytes")
-    }
+        "other"
+    };
+    println!(rt; "\nsaved {} {} {bytes} bytes", r.number, r.result)
 }
 
-// The number for the first n bytes.
-fn of_length(copy: &[u8], n: usize, words: &mut [u32], scratch: &mut [u32]) -> u32 {
-    if n <= copy.len() {
-        return load(&copy[..n], words, scratch).number;
-    }
-    99
-}
+// Of an image, of a destination and of a scratch, each length is lent, from none to all: three loops, since each cuts another of what
+// load takes, and a closure that cuts could not know that the length is within.
 
-// Every length from 0 to that of the bytes lent.
+// The numbers for the first bytes.
 fn lengths(
     rt: &HostRuntime,
     copy: &[u8],
@@ -100,23 +64,13 @@ fn lengths(
     scratch: &mut [u32],
 ) -> io::Result<()> {
     print!(rt; "lengths")?;
-    let mut n = 0;
-    while n <= copy.len() {
-        number(rt, of_length(copy, n, words, scratch))?;
-        n += 1;
+    for n in 0..=copy.len() {
+        print!(rt; " {}", loaded(&copy[..n], words, scratch))?;
     }
     println!(rt)
 }
 
-// The number for a destination of n words.
-fn into(image: &[u8], words: &mut [u32], n: usize, scratch: &mut [u32]) -> u32 {
-    if n <= words.len() {
-        return load(image, &mut words[..n], scratch).number;
-    }
-    99
-}
-
-// Destinations of 0 to all the words lent.
+// The numbers for destinations.
 fn destinations(
     rt: &HostRuntime,
     image: &[u8],
@@ -124,23 +78,13 @@ fn destinations(
     scratch: &mut [u32],
 ) -> io::Result<()> {
     print!(rt; "destinations")?;
-    let mut n = 0;
-    while n <= words.len() {
-        number(rt, into(image, words, n, scratch))?;
-        n += 1;
+    for n in 0..=words.len() {
+        print!(rt; " {}", loaded(image, &mut words[..n], scratch))?;
     }
     println!(rt)
 }
 
-// The number for a scratch of n words.
-fn with(image: &[u8], words: &mut [u32], scratch: &mut [u32], n: usize) -> u32 {
-    if n <= scratch.len() {
-        return load(image, words, &mut scratch[..n]).number;
-    }
-    99
-}
-
-// Scratches of 0 to all the words lent.
+// The numbers for scratches.
 fn scratches(
     rt: &HostRuntime,
     image: &[u8],
@@ -148,60 +92,38 @@ fn scratches(
     scratch: &mut [u32],
 ) -> io::Result<()> {
     print!(rt; "scratches")?;
-    let mut n = 0;
-    while n <= scratch.len() {
-        number(rt, with(image, words, scratch, n))?;
-        n += 1;
+    for n in 0..=scratch.len() {
+        print!(rt; " {}", loaded(image, words, &mut scratch[..n]))?;
     }
     println!(rt)
 }
 
 // One byte at each of its 256 values, a letter for each.
-fn each_value(copy: &mut [u8], at: usize, words: &mut [u32], scratch: &mut [u32], line: &mut [u8])
-    requires { (at < length copy.old) × (256 ≤ length line.old) }
-{
-    let kept = copy[at];
-    let mut v: usize = 0;
-    while v < 256 {
-        copy[at] = v as u8;
-        let a = load(copy, words, scratch);
-        line[v] = letter(a.number);
-        v += 1;
-    }
-    copy[at] = kept;
-}
-
-// The same, written as a line.
-fn one_byte(
-    rt: &HostRuntime,
-    copy: &mut [u8],
-    at: usize,
-    words: &mut [u32],
-    scratch: &mut [u32],
-) -> io::Result<()>
-    requires { (at < length copy.old) × (at < 65536) }
+fn each_value(copy: &mut [u8], at: usize, words: &mut [u32], scratch: &mut [u32]) -> [u8; 256]
+    requires { at < length copy.old }
 {
     let mut line = [0u8; 256];
-    each_value(copy, at, words, scratch, &mut line);
-    print!(rt; "byte")?;
-    number(rt, at as u32)?;
-    print!(rt; " ")?;
-    rt.write_all(&line)?;
-    println!(rt)
+    let kept = copy[at];
+    for value in 0..=255u8 {
+        copy[at] = value;
+        line[value as usize] = letter(loaded(copy, words, scratch));
+    }
+    copy[at] = kept;
+    line
 }
 
+// A line for each byte.
 fn each_byte(
     rt: &HostRuntime,
     copy: &mut [u8],
     words: &mut [u32],
     scratch: &mut [u32],
-) -> io::Result<()>
-    requires { length copy.old < 65536 }
-{
-    let mut at = 0;
-    while at < copy.len() {
-        one_byte(rt, copy, at, words, scratch)?;
-        at += 1;
+) -> io::Result<()> {
+    for at in 0..copy.len() {
+        let line = each_value(copy, at, words, scratch);
+        print!(rt; "byte {at} ")?;
+        rt.write_all(&line)?;
+        println!(rt)?;
     }
     Ok(())
 }
@@ -216,9 +138,7 @@ fn report(rt: &HostRuntime, good: &[u8]) -> io::Result<()>
     let n = good.len();
     copy[..n].copy_from_slice(good);
     let longest = n + 2;
-    print!(rt; "image of")?;
-    number(rt, n as u32)?;
-    println!(rt; " bytes")?;
+    println!(rt; "image of {n} bytes")?;
     whole(rt, good, &mut words, &mut scratch, &mut out)?;
     destinations(rt, good, &mut words, &mut scratch)?;
     scratches(rt, good, &mut words, &mut scratch)?;

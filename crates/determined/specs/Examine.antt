@@ -2,6 +2,8 @@
 -- Excluded: a pass whose scratch may end as it likes; a verdict that may be either.
 use Rattle.determined.specs.Outcome.{OneOutcome, one_value, two-values}
 use Rattle.examine.proofs.examine.examine
+use Rattle.examine.proofs.chain.Verdict.is_sound
+use Rattle.examine.proofs.chain.Verdict.is_ready
 use Rattle.examine.proofs.chain.is_free
 use Rattle.examine.proofs.chain.met_spent
 use Rattle.examine.proofs.chain.at_end
@@ -20,6 +22,12 @@ use Rattle.examine.proofs.slots.prior_slot
 use Rattle.examine.proofs.slots.kin
 use Rattle.examine.proofs.slots.look_at
 use Rattle.examine.proofs.slots.look_at_all
+
+pub one-is_sound : OneOutcome is_sound.Kinds.ps is_sound.Kinds.r is_sound.Reads.Learnt
+one-is_sound _ _ _ _ = one_value (λ t. (t, (tt, tt)))
+
+pub one-is_ready : OneOutcome is_ready.Kinds.ps is_ready.Kinds.r is_ready.Reads.Learnt
+one-is_ready _ _ _ _ = one_value (λ t. (t, (tt, tt)))
 
 pub one-is_free : OneOutcome is_free.Kinds.ps is_free.Kinds.r is_free.Reads.Learnt
 one-is_free _ _ _ _ = one_value (λ t. (t, (tt, tt)))

@@ -1,6 +1,11 @@
 -- The face for C and Rust: every exported function, with one outcome. An array of three words has three; of that and of the statement it follows.
 -- Excluded: a header behind its pointer left open by a refused call; a result not written; a state of a walk that a refusal may change.
+use denote.RattleType.{RattleType}
+use denote.Param.Laws.{Laws, IsCopy}
+use mir.Syntax.{Dict}
 use Rattle.std.specs.Prelude.{◌≡◌, refl, length}
+use Rattle.std.specs.declared.clone.Clone.{Ghosts}
+use Rattle.rules.specs.declared.answer.Outcome.{Ghosts as ValueGhosts}
 use Rattle.determined.specs.Outcome.{OneOutcome, OneSized, one_value}
 use Rattle.determined.specs.FaceLaws.{with-header, with-census}
 use Rattle.lift_c.proofs.batching.lift_batch
@@ -45,6 +50,8 @@ use Rattle.lift_c.proofs.walking.lift_walk_start
 use Rattle.lift_c.proofs.walking.lift_walk
 use Rattle.lift_c.proofs.counting.lift_census
 use Rattle.lift_c.proofs.packing.put_header
+use Rattle.lift_c.proofs.packing.put_reply
+use Rattle.lift_c.proofs.packing.put_answer
 
 pub one-lift_batch :
     OneSized lift_batch.Kinds.ps lift_batch.Kinds.r (λ _ _ x. length x.1.1.0 ≡ 3) lift_batch.Reads.Learnt
@@ -191,3 +198,12 @@ one-lift_census _ _ _ _ l k p q =
 pub one-put_header :
     OneSized put_header.Kinds.ps put_header.Kinds.r (λ _ _ x. length x.1.0 ≡ 3) put_header.Reads.Learnt
 one-put_header _ _ _ _ l k p q = with-header (λ v t. (tt, (v, (tt, tt)))) (λ t. t) l k p q refl refl
+
+-- Of any type of values that a call hands back.
+module _ (T : RattleType) (L : Laws T) (C : IsCopy T) (V : ValueGhosts T.Denot) (D : Dict) (G : Ghosts T.Denot) (E : Dict) where
+  pub one-put_reply : OneOutcome (put_reply.Kinds.ps T L C) (put_reply.Kinds.r T L C) (put_reply.Reads.Learnt T L C V D G E)
+  one-put_reply _ _ _ _ = one_value (λ t. (t.number, (t.result, (tt, tt))))
+
+  pub one-put_answer :
+      OneSized (put_answer.Kinds.ps T L C) (put_answer.Kinds.r T L C) (λ _ _ x. length x.1.0 ≡ 3) (put_answer.Reads.Learnt T L C V D G E)
+  one-put_answer _ _ _ _ l k p q = with-header (λ v t. (t.number, (v, (t.result, (tt, (tt, tt)))))) (λ t. t.header) l k p q refl refl

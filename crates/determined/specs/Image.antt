@@ -1,13 +1,15 @@
 -- Crate image: save and load. Its public functions, each with one outcome.
 -- Excluded: an image with bytes to choose; a refused load whose words or header may be anything.
-use Rattle.determined.specs.Outcome.{OneOutcome, one_value}
+use Rattle.rules.specs.Answers.{number_in, reply_of, answer_changed}
+use Rattle.rules.proofs.AnswerLaws.{number_in-one, reply_of-one, answer_changed-one}
+use Rattle.determined.specs.Outcome.{OneOutcome, one_value, one_view, one_left, one-two_left}
 use Rattle.image.proofs.format.image_length
 use Rattle.image.proofs.format.marked
 use Rattle.image.proofs.format.read_header
 use Rattle.image.proofs.format.write_mark
 use Rattle.image.proofs.format.write_prefix
-use Rattle.image.proofs.load.load_number
-use Rattle.image.proofs.load.refused
+use Rattle.image.proofs.load.admit
+use Rattle.image.proofs.load.answered
 use Rattle.image.proofs.load.settle
 use Rattle.image.proofs.load.load
 use Rattle.image.proofs.save.write_image
@@ -31,23 +33,23 @@ one-write_mark _ _ _ _ = one_value (λ t. (tt, (t, tt)))
 pub one-write_prefix : OneOutcome write_prefix.Kinds.ps write_prefix.Kinds.r write_prefix.Reads.Learnt
 one-write_prefix _ _ _ _ = one_value (λ t. (tt, (t, (tt, tt))))
 
-pub one-load_number : OneOutcome load_number.Kinds.ps load_number.Kinds.r load_number.Reads.Learnt
-one-load_number _ _ _ _ = one_value (λ t. (t, (tt, (tt, (tt, tt)))))
+pub one-admit : OneOutcome admit.Kinds.ps admit.Kinds.r admit.Reads.Learnt
+one-admit _ _ _ _ = one_view number_in number_in-one (λ r. (r, (tt, (tt, (tt, tt)))))
 
-pub one-refused : OneOutcome refused.Kinds.ps refused.Kinds.r refused.Reads.Learnt
-one-refused _ _ _ _ = one_value (λ t. (t, (tt, tt)))
+pub one-answered : OneOutcome answered.Kinds.ps answered.Kinds.r answered.Reads.Learnt
+one-answered _ _ _ _ = one_value (λ t. (t, (tt, tt)))
 
 pub one-settle : OneOutcome settle.Kinds.ps settle.Kinds.r settle.Reads.Learnt
-one-settle _ _ _ _ = one_value (λ t. (t.1, (t.0, (tt, (tt, tt)))))
+one-settle _ _ _ _ = one_left (answer_changed _) (answer_changed-one _) (λ m r. (r, (m, (tt, (tt, tt)))))
 
 pub one-load : OneOutcome load.Kinds.ps load.Kinds.r load.Reads.Learnt
-one-load _ _ _ _ = one_value (λ t. (t.2, (tt, (t.0, (t.1, tt)))))
+one-load _ _ _ _ = one-two_left (answer_changed _) (answer_changed-one _) (λ m s r. (r, (tt, (m, (s, tt)))))
 
 pub one-write_image : OneOutcome write_image.Kinds.ps write_image.Kinds.r write_image.Reads.Learnt
-one-write_image _ _ _ _ = one_value (λ t. (t.1, (tt, (tt, (t.0, tt)))))
+one-write_image _ _ _ _ = one_left reply_of reply_of-one (λ b r. (r, (tt, (tt, (b, tt)))))
 
 pub one-save : OneOutcome save.Kinds.ps save.Kinds.r save.Reads.Learnt
-one-save _ _ _ _ = one_value (λ t. (t.2, (tt, (tt, (t.0, (t.1, tt))))))
+one-save _ _ _ _ = one-two_left reply_of reply_of-one (λ s b r. (r, (tt, (tt, (s, (b, tt))))))
 
 pub one-is_spent : OneOutcome is_spent.Kinds.ps is_spent.Kinds.r is_spent.Reads.Learnt
 one-is_spent _ _ _ _ = one_value (λ t. (t, (tt, tt)))

@@ -1,9 +1,15 @@
 -- Crate link: words, identifiers, stamps, the surgery of links. Its public functions, each with one outcome.
 -- Excluded: a surgery that is free to write another word; a stamp stated up to its sign.
 use Rattle.std.proofs.Common.{sym, ◌∙◌}
+use denote.RattleType.{RattleType}
+use denote.Param.Laws.{Laws, IsCopy}
+use mir.Syntax.{Dict}
+use Rattle.std.specs.declared.clone.Clone.{Ghosts}
 use Rattle.determined.specs.Outcome.{OneOutcome, one_value}
-use Rattle.link.proofs.choice.pick
 use Rattle.link.proofs.choice.choose
+use Rattle.link.proofs.siblings_range.SiblingsRange.one
+use Rattle.link.proofs.siblings_range.DetachedSiblingsRange.one as one_detached
+use Rattle.link.proofs.header.HeaderDefault.default
 use Rattle.link.proofs.siblings_range.SiblingsRange.detach_from_siblings
 use Rattle.link.proofs.id.Stamp.fresh
 use Rattle.link.proofs.id.Stamp.removed
@@ -28,11 +34,9 @@ use Rattle.link.proofs.words.set_word
 use Rattle.link.proofs.words.link_of
 use Rattle.link.proofs.words.set_link
 
-pub one-pick : OneOutcome pick.Kinds.ps pick.Kinds.r pick.Reads.Learnt
-one-pick _ _ _ _ = one_value (λ t. (t, (tt, (tt, (tt, tt)))))
-
-pub one-choose : OneOutcome choose.Kinds.ps choose.Kinds.r choose.Reads.Learnt
-one-choose _ _ _ _ = one_value (λ t. (t, (tt, (tt, (tt, tt)))))
+pub one-choose : (T : RattleType) (L : Laws T) (C : IsCopy T) (G : Ghosts T.Denot) (D : Dict)
+    → OneOutcome (choose.Kinds.ps T L C) (choose.Kinds.r T L C) (choose.Reads.Learnt T L C G D)
+one-choose _ _ _ _ _ _ _ _ _ = one_value (λ t. (t, (tt, (tt, (tt, tt)))))
 
 pub one-fresh : OneOutcome fresh.Kinds.ps fresh.Kinds.r fresh.Reads.Learnt
 one-fresh _ _ _ _ = one_value (λ t. (record { 0 = t }, tt))
@@ -104,3 +108,12 @@ pub one-detach_from_siblings :
     OneOutcome detach_from_siblings.Kinds.ps detach_from_siblings.Kinds.r detach_from_siblings.Reads.Learnt
 one-detach_from_siblings _ _ _ _ p q i =
     (record { first = (p.1 ∙ sym q.1) i; last = (p.2 ∙ sym q.2) i }, (tt, ((p.0 ∙ sym q.0) i, tt)))
+
+pub one-one : OneOutcome one.Kinds.ps one.Kinds.r one.Reads.Learnt
+one-one _ _ _ _ p q i = (record { first = (p.0 ∙ sym q.0) i; last = (p.1 ∙ sym q.1) i }, (tt, tt))
+
+pub one-one_detached : OneOutcome one_detached.Kinds.ps one_detached.Kinds.r one_detached.Reads.Learnt
+one-one_detached _ _ _ _ p q i = (record { first = (p.0 ∙ sym q.0) i; last = (p.1 ∙ sym q.1) i }, (tt, tt))
+
+pub one-default : OneOutcome default.Kinds.ps default.Kinds.r default.Reads.Learnt
+one-default _ _ _ _ p q i = (record { used = (p.0 ∙ sym q.0) i; first = (p.1.0 ∙ sym q.1.0) i; last = (p.1.1 ∙ sym q.1.1) i }, tt)

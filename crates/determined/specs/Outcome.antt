@@ -39,3 +39,35 @@ one_value f e d = ap f (e ∙ sym d)
 -- Two pairs of equations.
 pub two-values : {A B C : Type 0} (f : A → B → C) {x y m : A} {u v n : B} → x ≡ m → y ≡ m → u ≡ n → v ≡ n → f x u ≡ f y v
 two-values f {y = y} {u = u} e d g h = ap (λ t. f t u) (e ∙ sym d) ∙ ap (λ t. f y t) (g ∙ sym h)
+
+-- Statements on what is handed back as numbers (`reply_of`, `answer_kept` ..), which tell any two values apart: alone, behind what is left in one
+-- place that was lent, behind two, and behind three.
+module _ {A R B : Type 0} (view : R → B) (one : (r s : R) → view r ≡ view s → r ≡ s) where
+  pub one_view : (f : R → A) {r s : R} {m : B} → view r ≡ m → view s ≡ m → f r ≡ f s
+  one_view f {r} {s} e d = ap f (one r s (e ∙ sym d))
+
+  pub one_left : {W : Type 0} (f : W → R → A) {v w : W} {r s : R} {m : W × B} → (v, view r) ≡ m → (w, view s) ≡ m → f v r ≡ f w s
+  one_left {W} f {v} {w} {r} {s} e d =
+      let same : (v, view r) ≡ (w, view s) = e ∙ sym d in
+      let left : v ≡ w = ap (λ (p : W × B). p.0) same in
+      let told : r ≡ s = one r s (ap (λ (p : W × B). p.1) same) in
+      λ i. f (left i) (told i)
+
+  pub one-two_left : {V W : Type 0} (f : V → W → R → A) {v v' : V} {w w' : W} {r s : R} {m : V × W × B}
+      → (v, w, view r) ≡ m → (v', w', view s) ≡ m → f v w r ≡ f v' w' s
+  one-two_left {V} {W} f {v} {v'} {w} {w'} {r} {s} e d =
+      let same : (v, w, view r) ≡ (v', w', view s) = e ∙ sym d in
+      let first : v ≡ v' = ap (λ (p : V × W × B). p.0) same in
+      let second : w ≡ w' = ap (λ (p : V × W × B). p.1) same in
+      let told : r ≡ s = one r s (ap (λ (p : V × W × B). p.2) same) in
+      λ i. f (first i) (second i) (told i)
+
+  pub one-three_left : {U V W : Type 0} (f : U → V → W → R → A) {u u' : U} {v v' : V} {w w' : W} {r s : R} {m : U × V × W × B}
+      → (u, v, w, view r) ≡ m → (u', v', w', view s) ≡ m → f u v w r ≡ f u' v' w' s
+  one-three_left {U} {V} {W} f {u} {u'} {v} {v'} {w} {w'} {r} {s} e d =
+      let same : (u, v, w, view r) ≡ (u', v', w', view s) = e ∙ sym d in
+      let first : u ≡ u' = ap (λ (p : U × V × W × B). p.0) same in
+      let second : v ≡ v' = ap (λ (p : U × V × W × B). p.1) same in
+      let third : w ≡ w' = ap (λ (p : U × V × W × B). p.2) same in
+      let told : r ≡ s = one r s (ap (λ (p : U × V × W × B). p.3) same) in
+      λ i. f (first i) (second i) (third i) (told i)

@@ -12,8 +12,8 @@ use types.Logic.{Logic}
 use seplogic.Ra.Ura.{Ura}
 use prog.Memory.{Memory}
 use prog.Routine.{Routine}
-use Rattle.walker.specs.contracts.new
-use Rattle.walker.specs.contracts.next
+use Rattle.walker.specs.contracts.Walker.new
+use Rattle.walker.specs.contracts.Walker.next
 use Rattle.walker.proofs.walk_next
 
 pub one-walk_next : OneOutcome walk_next.Kinds.ps walk_next.Kinds.r walk_next.Reads.Learnt

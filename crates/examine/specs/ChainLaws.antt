@@ -5,6 +5,8 @@ use Rattle.std.proofs.Math.Bool.{cond}
 use Prim.Native.Nat.{◌-◌, ℕ, zero, suc, ◌<◌, ◌≤◌}
 use native.Mathlib.Omega.{arith}
 use Rattle.std.proofs.Math.Numerals.{sub-one}
+use Rattle.std.proofs.Math.Nat.{sub-add-eq}
+use Rattle.std.proofs.lemmas.Bool.Decides.{nat_tests}
 use Rattle.link.specs.Words.{STAMP, NUMBER, word}
 use Rattle.examine.specs.Chain.{free_word, met_spent, at_end, chain_run}
 use Rattle.examine.specs.declared.chain.Verdict.TheVariants.{Unsound}
@@ -31,3 +33,6 @@ module _ (n : ℕ) (m : List ℕ) (used last : ℕ) (spent : Bool) (before x : �
           Unsound))
       by zero g = absurd (omega arith)
       by (suc k) g = simp sub-one
+
+-- For the loop that counts its steps up: at step i of n, n - i are left.
+pub ruleset chain_turns = (nat_tests, sub-add-eq, chain-out, chain-step)

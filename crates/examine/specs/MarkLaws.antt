@@ -6,6 +6,8 @@ use Prim.Native.Nat.{◌-◌, ℕ, zero, suc, ◌+◌, ◌<◌, ◌≤◌}
 use native.Mathlib.Omega.{arith}
 use Rattle.std.proofs.Math.Numerals.{sub-one}
 use Rattle.std.proofs.Common.{ltb-false}
+use Rattle.std.proofs.Math.Nat.{sub-add-eq}
+use Rattle.std.proofs.lemmas.Bool.Decides.{nat_tests}
 use Rattle.examine.specs.Marks.{climb_run, climbs_run}
 use Rattle.examine.specs.ScratchLaws.{Within, within_none, within-set, within_both}
 
@@ -44,6 +46,11 @@ module _ (n used i : ℕ) (scratch : List ℕ) where
           (climb_run (used + 2) used i i scratch)
       by zero g = absurd (omega arith)
       by (suc k) g = simp sub-one
+
+-- For the loops that count up: at step i of n, n - i are left.
+pub ruleset climb_turns = (nat_tests, sub-add-eq, climb-out, climb-step)
+
+pub ruleset climbs_turns = (nat_tests, sub-add-eq, climbs-out, climbs-step)
 
 pub climb-within : (n used i x : ℕ) (scratch : List ℕ) → 1 ≤ used → x ≤ used → Within used scratch (climb_run n used i x scratch).0
 unfolding climb_run

@@ -12,6 +12,7 @@ use Rattle.std.proofs.Math.Decide.{ℕ_discrete}
 use Rattle.std.proofs.Math.Nat.{lt_irrefl}
 use native.Mathlib.Omega.{arith}
 use Rattle.std.proofs.Math.ListN.{length, get_or}
+use Rattle.std.proofs.lemmas.Bool.Decides.{nat_tests}
 use borrow.Author.Tests.{eq-eqb, ne_eqb, lt-ltb, le-ltb}
 use Rattle.follow.specs.Point.{at, at_same, at_other}
 use Rattle.follow.specs.Marks.{climb, scan}
@@ -219,3 +220,6 @@ module _ (m : List ℕ) (used : ℕ) (scratch : List ℕ) where
       let q = e ∙ ap (λ (s : List ℕ). look_run used m used 1 s) d in
       let no : looked.1 ≡ false = sym (ap (λ (p : List ℕ × Bool). p.1) q) ∙ t in
       simp (ne_eqb used 0 some, no) (ap (λ (b : Bool). (left, b)) (sym t) ∙ q)
+
+-- For the code, which runs the second pass where the first said yes.
+pub ruleset link_passes = (nat_tests, links_climbed, links-stopped)

@@ -3,6 +3,7 @@ use Rattle.std.specs.Prelude.{◌≡◌, Bool, List, ℕ, ◌<◌, eqb}
 use Rattle.std.proofs.Math.Path.{refl, sym, ap}
 use Rattle.std.proofs.Common.{◌∙◌, arith}
 use Rattle.std.proofs.Math.Bool.{true, false, cond}
+use Rattle.std.proofs.lemmas.Bool.Decides.{nat_tests}
 use borrow.Author.Tests.{eq-eqb, ne_eqb}
 use Rattle.link.specs.Words.{NEXT, FIRST, width}
 use Rattle.link.specs.Found.{found_b}
@@ -59,3 +60,6 @@ module _ (m : List ℕ) (used x parent previous : ℕ) where
 
     pub led-lost : b ≡ false → false ≡ previous_ok m used x parent previous
     led-lost e = ap (λ (t : Bool). cond t (found_b m used parent) false) (sym e) ∙ known
+
+-- For the code, which chooses the one that leads to x and tests it.
+pub ruleset previous_tests = (nat_tests, lead-below, rootless-first, rootless-later, led-found, led-lost)

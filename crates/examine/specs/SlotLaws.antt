@@ -1,16 +1,27 @@
 -- The first pass, one slot at a time; it writes to the places of the slots it looks at, and finds no leading slot past used.
 -- From its definition alone.
-use Rattle.std.specs.Prelude.{◌≡◌, refl, Bool, true, false, List, eqb, set}
+use Rattle.std.specs.Prelude.{◌≡◌, refl, Bool, true, false, Some, None, List, eqb, set}
 use Rattle.std.proofs.Math.Bool.{cond}
 use Prim.Native.Nat.{◌-◌, ℕ, zero, suc, ◌+◌, ◌<◌, ◌≤◌}
 use native.Mathlib.Omega.{arith}
 use Rattle.std.proofs.Math.Numerals.{sub-one}
-use Rattle.std.proofs.Common.{eqb-true}
+use Rattle.std.proofs.Common.{sym, eqb-true}
+use Rattle.std.proofs.Math.Nat.{sub-add-eq}
+use Rattle.std.proofs.lemmas.Bool.Decides.{nat_tests}
 use Rattle.link.specs.Ids.{slot_of}
 use Rattle.link.specs.Words.{PARENT, PREVIOUS, NEXT, FIRST, word}
-use Rattle.examine.specs.Slots.{bad, has_b, lead_ok, none_or_found_b, previous_ok, prior_slot, kin_ok, look, look_run}
+use Rattle.examine.specs.Slots.{bad, prior_of, prior_no, has_b, lead_ok, none_or_found_b, previous_ok, prior_slot, kin_ok, look, look_run}
 use Rattle.examine.specs.TestLaws.{both_true, has-true}
 use Rattle.examine.specs.ScratchLaws.{Within, within_none, within-set}
+
+-- The answer keeps the number.
+pub prior_no-of : (n : ℕ) → prior_no (prior_of n) ≡ n
+unfolding prior_of
+prior_no-of n = by (eqb n bad) refl
+  where
+    by : (t : Bool) → eqb n bad ≡ t → prior_no (cond t None (Some n)) ≡ n
+    by true e = sym (eqb-true n bad e)
+    by false e = refl
 
 module _ (n : ℕ) (m : List ℕ) (used s : ℕ) (scratch : List ℕ) where
   pub look-out : n ≤ 0 → look_run n m used s scratch ≡ (scratch, true)
@@ -26,6 +37,9 @@ module _ (n : ℕ) (m : List ℕ) (used s : ℕ) (scratch : List ℕ) where
           cond (eqb (look m used s) bad) (scratch, false) (look_run (k - 1) m used (s + 1) (set scratch s (look m used s)))
       by zero g = absurd (omega arith)
       by (suc k) g = simp sub-one
+
+-- For the loop that counts up: at step i of n, n - i are left.
+pub ruleset look_turns = (nat_tests, sub-add-eq, look-out, look-step)
 
 pub look-within : (n : ℕ) (m : List ℕ) (used s : ℕ) (scratch : List ℕ) → 1 ≤ s → s + n ≤ used + 1 → Within used scratch (look_run n m used s scratch).0
 unfolding look_run

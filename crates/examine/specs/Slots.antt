@@ -1,6 +1,6 @@
 -- The model of the first pass: what is tested of each slot in use, and what leads to it.
 -- Nothing here has to be believed: that memory passes exactly when it is sound is a theorem of the crate `exact`.
-use Rattle.std.specs.Prelude.{Bool, true, false, cond, List, ℕ, zero, suc, ◌+◌, eqb, ltb, set}
+use Rattle.std.specs.Prelude.{Bool, true, false, cond, Option, Some, None, List, ℕ, zero, suc, ◌+◌, eqb, ltb, set}
 use Rattle.link.specs.Ids.{slot_of, id_of, stamp_of}
 use Rattle.link.specs.Words.{STAMP, PARENT, PREVIOUS, NEXT, FIRST, LAST, word}
 use Rattle.link.specs.Found.{found_b}
@@ -8,6 +8,15 @@ use Rattle.link.specs.Found.{found_b}
 -- No slot number: a slot that fails a test.
 abbrev pub bad : ℕ
 bad = 65536
+
+-- The number as an answer of Rust: `None` for the bad one.
+unfoldable pub prior_of : ℕ → Option ℕ
+prior_of n = cond (eqb n bad) None (Some n)
+
+-- And back: the number that an answer stands for.
+abbrev pub prior_no : Option ℕ → ℕ
+prior_no None = bad
+prior_no (Some n) = n
 
 -- y is found, its word j is a and its word k is b.
 unfoldable pub has_b : List ℕ → ℕ → ℕ → ℕ → ℕ → ℕ → ℕ → Bool

@@ -3,8 +3,10 @@
 use Rattle.std.specs.Prelude.{◌≡◌, refl, ◌≢◌, ◌↔◌, Bool, true, false, cond, List, ℕ, eqb}
 use Rattle.std.proofs.lemmas.Bool.{false≢true, eqb-false}
 use Rattle.std.proofs.Common.{eqb-true, eq-eqb}
+use Rattle.std.proofs.lemmas.Bool.Decides.{nat_tests}
 use Rattle.link.specs.Ids.{slot_of}
 use Rattle.link.specs.Words.{word}
+use Rattle.link.specs.WordLaws.{link-some}
 use Rattle.link.specs.Found.{Found, found_b}
 use Rattle.link.specs.FoundLaws.{found_is, is_found}
 use Rattle.examine.specs.Slots.{has_b}
@@ -30,3 +32,6 @@ has-true m used y j a k b = (
       (found_is m used y v.0, eqb-true _ a w.0, eqb-true _ b w.1),
   λ w. (both_true (found_b m used y) _).1 (is_found m used y w.0, (both_true (eqb (word m (slot_of y) j) a) _).1 (eq-eqb _ a w.1, eq-eqb _ b w.2)),
 )
+
+-- For the tests of what is read through an identifier that is not none.
+pub ruleset found_tests = (nat_tests, link-some)

@@ -9,19 +9,17 @@ use crate::marks::{climb_all, mark_none};
 use crate::slots::look_at_all;
 use link::header::Header;
 
-// Sets the first n words to zero.
+// Sets the first n words to zero. A function of one line for its contract, which names what is left `zeroed`.
+#[tactic(auto, unfolding(crate::specs::Scratch::zeroed))]
 pub fn zero_fill(scratch: &mut [u32], n: usize)
     requires { n ≤ length scratch.old }
     ensures { scratch.new ≡ zeroed n scratch.old }
 {
-    let mut i = 0;
-    while i < n {
-        scratch[i] = 0;
-        i += 1;
-    }
+    scratch[..n].fill(0);
 }
 
 // The passes over links; where no slot is in use they write nothing.
+#[tactic(auto, using(crate::specs::PassLaws::link_passes), unfolding(crate::specs::Examination::links_run))]
 pub fn links_ok(words: &[u32], used: u32, scratch: &mut [u32]) -> bool
     requires { (used ≤ 65535) × (used * width ≤ length words.now) × (2 * used ≤ length scratch.old) }
     ensures { (scratch.new, result) ≡ links_run words.now used scratch.old }
@@ -30,10 +28,7 @@ pub fn links_ok(words: &[u32], used: u32, scratch: &mut [u32]) -> bool
         return true;
     }
     mark_none(scratch);
-    if look_at_all(words, used, scratch) {
-        return climb_all(scratch, used);
-    }
-    false
+    look_at_all(words, used, scratch) && climb_all(scratch, used)
 }
 
 pub fn examine(words: &[u32], h: Header, scratch: &mut [u32]) -> Verdict
@@ -44,7 +39,8 @@ pub fn examine(words: &[u32], h: Header, scratch: &mut [u32]) -> Verdict
     let sound = links_ok(words, used, scratch);
     zero_fill(scratch, 2 * (used as usize));
     if sound {
-        return free_chain(words, used, h.first, h.last);
+        free_chain(words, used, h.first, h.last)
+    } else {
+        Verdict::Unsound
     }
-    Verdict::Unsound
 }

@@ -4,23 +4,26 @@
 ghost use Rattle.std.specs.Prelude.{◌≡◌, ◌+◌, ◌*◌, ◌<◌, ◌≤◌, length, set};
 ghost use Rattle.examine.specs.Marks.{climb_run, climbs_run};
 
+// A mark is this much or more, and what leads to a slot is less: one number a place, since the lent scratch is the only memory.
+const MARK: u32 = 65536;
+
 // Place 0 as passed already, by no climb.
 pub fn mark_none(scratch: &mut [u32])
     requires { 0 < length scratch.old }
     ensures { scratch.new ≡ set scratch.old 0 65536 }
 {
-    scratch[0] = 65536;
+    scratch[0] = MARK;
 }
 
 // From x, with i's marks: yes at an earlier climb's mark and at none's, no at an own one.
+#[tactic(auto, using(crate::specs::MarkLaws::climb_turns))]
 pub fn climb(scratch: &mut [u32], used: u32, i: u32) -> bool
     requires { (used ≤ 65535) × (2 * used ≤ length scratch.old) × (0 < i) × (i ≤ used) }
     ensures { (scratch.new, result) ≡ climb_run (used + 2) used i i scratch.old }
 {
-    let mark = 65536 + i;
+    let mark = MARK + i;
     let mut x = i;
-    let mut left = used + 2;
-    while 0 < left {
+    for _ in 0..used + 2 {
         let at = x as usize;
         let v = scratch[at];
         if used < v {
@@ -28,23 +31,18 @@ pub fn climb(scratch: &mut [u32], used: u32, i: u32) -> bool
         }
         scratch[at] = mark;
         x = v;
-        left -= 1;
     }
     false
 }
 
 // From every slot in use.
+#[tactic(auto, using(crate::specs::MarkLaws::climbs_turns))]
 pub fn climb_all(scratch: &mut [u32], used: u32) -> bool
     requires { (used ≤ 65535) × (2 * used ≤ length scratch.old) }
     ensures { (scratch.new, result) ≡ climbs_run used used 1 scratch.old }
 {
-    let mut i: u32 = 1;
-    let mut left = used;
-    while 0 < left {
-        if climb(scratch, used, i) {
-            i += 1;
-            left -= 1;
-        } else {
+    for i in 1..=used {
+        if !climb(scratch, used, i) {
             return false;
         }
     }

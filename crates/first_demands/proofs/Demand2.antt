@@ -18,18 +18,16 @@ use Rattle.forest.specs.Whole.{Forested, tree_of_lem}
 use Rattle.examine.specs.Scratch.{zeroed}
 use Rattle.sound.specs.Guard.{guard_no}
 use Rattle.sound.specs.GuardLaws.{guard-ready, validated-sound}
-use Rattle.arena.specs.Census.{census_of}
-use Rattle.arena.specs.declared.census.Counted.{Counted}
+use Rattle.arena.specs.Census.{Counted, census_of}
 use Rattle.keeps.specs.Set.{set-forest}
 use Rattle.keeps.specs.Census.{census_adds}
 use Rattle.removal.specs.Remove.{remove_node, remove_subtree, remove_children}
 use Rattle.removed.specs.Gone.{Removes}
 use Rattle.removed.proofs.Calls.{node-goes, subtree-goes, children-go}
 use Rattle.walk.specs.Written.{written}
-use Rattle.walk.specs.Walks.{codes}
+use Rattle.walk.specs.Walks.{Walked, codes}
 use Rattle.walk.specs.declared.edge.Edge.{Edge}
 use Rattle.walk.specs.declared.edge.Edge.TheVariants.{Start}
-use Rattle.walk.specs.declared.walk.Walked.{Walked}
 use Rattle.lists.specs.Orders.{ordered}
 use Rattle.lists.specs.Levels.{level_order}
 use Rattle.lists.specs.Listing.{counted}

@@ -19,19 +19,16 @@ use Rattle.examine.specs.Examination.{examined}
 use Rattle.sound.specs.Guard.{frame_b, scratch_b, scratch_after, sound_result, fit_no, guard_no, validated, guarded, guarded_read}
 use Rattle.arena.specs.Create.{full_b, create_no, fresh, reused, new_node}
 use Rattle.arena.specs.Reads.{named_no, read_word, set_number}
-use Rattle.arena.specs.Census.{no_census, census_of, census_call, live_call}
-use Rattle.arena.specs.declared.census.Counted.{Counted}
+use Rattle.arena.specs.Census.{Counted, no_census, census_of, census_call, live_call}
 use Rattle.moves.specs.Moves.{ancestor_b, move_no, move_words, move_node}
 use Rattle.moves.specs.Values.{put_new, value_no, value_node}
 use Rattle.moves.specs.Detach.{detach, detach_children, name_no, detach_node, detach_children_node}
 use Rattle.removal.specs.Remove.{removal_no, when_found, removed, descendants_removed, subtree_removed, remove_node, remove_subtree, remove_children}
 use Rattle.walk.specs.Written.{written}
-use Rattle.walk.specs.Walks.{standing, started, walk_no, yielded, walked}
+use Rattle.walk.specs.Walks.{Started, Walked, standing, started, walk_no, yielded, walked}
 use Rattle.walk.specs.declared.edge.Edge.TheVariants.{Start}
 use Rattle.walk.specs.declared.edge.Step.{Step}
 use Rattle.walk.specs.declared.walk.Traverse.{Traverse}
-use Rattle.walk.specs.declared.walk.Started.{Started}
-use Rattle.walk.specs.declared.walk.Walked.{Walked}
 use Rattle.lists.specs.Orders.{ordered}
 use Rattle.lists.specs.Listing.{list_no, listing, counted, guarded_list}
 use Rattle.lists.specs.declared.order.Order.TheVariants.{Descendants}

@@ -1,6 +1,6 @@
 -- The models of the siblings range, on nodes that sound memory has: with fuel for the range, naming a parent and joining a range
 -- to its neighbours look as their views say; and one node detached, or put in a place, is the words of surgery.
-use Rattle.std.specs.Prelude.{◌≡◌, ◌≢◌, length}
+use Rattle.std.specs.Prelude.{◌≡◌, ◌≢◌, length, Result, Ok}
 use Rattle.std.proofs.Math.Path.{refl, subst}
 use Rattle.std.proofs.Common.{sym, ap, ◌∙◌, inr, not-suc-le-zero, arith}
 use mathlib.Core.List.{List, [], ◌∷◌}
@@ -13,8 +13,7 @@ use Rattle.link.specs.Found.{Found}
 use Rattle.link.specs.Relations.{connect_neighbors}
 use Rattle.link.specs.Siblings.{detach_range, rewrite_parents, joined, transplanted, insert_with_neighbors, insert_last, insert_first}
 use Rattle.link.specs.declared.header.Header.{Header}
-use Rattle.link.specs.declared.siblings_range.Placed.{Placed}
-use Rattle.link.specs.declared.siblings_range.Placed.TheVariants.{Done}
+use Rattle.link.specs.declared.siblings_range.ConsistencyError.{ConsistencyError}
 use Rattle.rules.specs.Lists.{head_or, last_or, Off, All}
 use Rattle.rules.specs.Links.{Link, par, prv, nxt, fst, lst, View, view}
 use Rattle.rules.specs.Sound.{Sound, Linked}
@@ -30,7 +29,7 @@ use Rattle.forest.specs.DetachWords.{detached-alone}
 -- ---- one node
 
 -- with no next it is the only one that is told its parent
-pub rewrite-alone : (n : ℕ) (m : List ℕ) (x o : ℕ) → 2 ≤ n → x ≢ 0 → x ≢ o → link m x NEXT ≡ 0 → rewrite_parents n m x o ≡ (set_link m x PARENT o, Done)
+pub rewrite-alone : (n : ℕ) (m : List ℕ) (x o : ℕ) → 2 ≤ n → x ≢ 0 → x ≢ o → link m x NEXT ≡ 0 → rewrite_parents n m x o ≡ (set_link m x PARENT o, Ok tt)
 unfolding rewrite_parents
 rewrite-alone zero m x o h xz xo e = absurd (not-suc-le-zero h)
 rewrite-alone (suc zero) m x o h xz xo e = absurd (omega arith)
@@ -40,10 +39,10 @@ rewrite-alone (suc (suc n)) m x o h xz xo e = simp (ne_eqb x 0 xz, ne_eqb x o xo
     next = link-other m x PARENT o x NEXT (omega arith) (omega arith) (λ (q : NEXT ≡ PARENT). omega arith) ∙ e
 
 pub transplant-alone : (n : ℕ) (m : List ℕ) (x o p q : ℕ) → 2 ≤ n → x ≢ 0 → x ≢ o → link m x NEXT ≡ 0
-    → transplanted n m x x o p q ≡ (place_words m x o p q, Done)
+    → transplanted n m x x o p q ≡ (place_words m x o p q, Ok tt)
 unfolding transplanted place_words
 transplant-alone n m x o p q h xz xo e =
-    ap (λ (r : List ℕ × Placed). (joined r.1 r.0 x x o p q, r.1)) (rewrite-alone n m x o h xz xo e)
+    ap (λ (r : List ℕ × Result Unit ConsistencyError). (joined r.1 r.0 x x o p q, r.1)) (rewrite-alone n m x o h xz xo e)
 
 -- writing none where none stands
 write_none : (m : List ℕ) (x k : ℕ) → link m x k ≡ 0 → set_link m x k 0 ≡ m
@@ -62,18 +61,18 @@ unfolding detach_range
 detach-nothing m x a b c = rw (write_none m x PREVIOUS b, write_none m x NEXT c, a, b, c) (connect_none m)
 
 pub insert-alone : (n : ℕ) (m : List ℕ) (x o p q : ℕ) → 2 ≤ n → x ≢ 0 → p ≢ x → q ≢ x → o ≢ x
-    → link m x PARENT ≡ 0 → link m x PREVIOUS ≡ 0 → link m x NEXT ≡ 0 → insert_with_neighbors n m x o p q ≡ (place_words m x o p q, Done)
+    → link m x PARENT ≡ 0 → link m x PREVIOUS ≡ 0 → link m x NEXT ≡ 0 → insert_with_neighbors n m x o p q ≡ (place_words m x o p q, Ok tt)
 unfolding insert_with_neighbors
 insert-alone n m x o p q h xz px qx ox a b c =
     simp (ne_eqb p x px, ne_eqb q x qx, ne_eqb o x ox, detach-nothing m x a b c) (transplant-alone n m x o p q h xz (λ e. ox (sym e)) c)
 
 pub last-alone : (n : ℕ) (m : List ℕ) (x o : ℕ) → 2 ≤ n → x ≢ 0 → x ≢ o → link m x NEXT ≡ 0
-    → insert_last n m x o ≡ (place_words m x o (link m o LAST) 0, Done)
+    → insert_last n m x o ≡ (place_words m x o (link m o LAST) 0, Ok tt)
 unfolding insert_last
 last-alone n m x o = transplant-alone n m x o (link m o LAST) 0
 
 pub first_alone : (n : ℕ) (m : List ℕ) (x o : ℕ) → 2 ≤ n → x ≢ 0 → x ≢ o → link m x NEXT ≡ 0
-    → insert_first n m x o ≡ (place_words m x o 0 (link m o FIRST), Done)
+    → insert_first n m x o ≡ (place_words m x o 0 (link m o FIRST), Ok tt)
 unfolding insert_first
 first_alone n m x o = transplant-alone n m x o 0 (link m o FIRST)
 
@@ -87,7 +86,7 @@ detached-next m h room S x f =
     ∙ (subst (Chain (view (detach_words m x)) 0) alone (H.chains (roots 0) tt)).segment.2
 
 pub detach_rewrites : (m : List ℕ) (h : Header) → h.used * width ≤ length m → Sound m h → (x : ℕ) → Found m h.used x
-    → (n : ℕ) → 2 ≤ n → rewrite_parents n (detach_range m x x) x 0 ≡ (detach_words m x, Done)
+    → (n : ℕ) → 2 ≤ n → rewrite_parents n (detach_range m x x) x 0 ≡ (detach_words m x, Ok tt)
 unfolding detach_words
 detach_rewrites m h room S x f n l =
     let some : x ≢ 0 = found_some m h.used x f in
@@ -120,7 +119,7 @@ reparent-more v x ms o = λ i k. at-link k i
 module _ (live : ℕ → Type 0) (N : Nodes live) (used : ℕ) where
   pub looks_rewrite : (ms : List ℕ) (n : ℕ) (m : List ℕ) (v : View) (c o : ℕ) → c ≡ head_or ms 0 → Linked (v nxt) ms → All live ms → Off o ms
       → length ms < n
-      → Looks m live used v → ((rewrite_parents n m c o).1 ≡ Done) × Looks (rewrite_parents n m c o).0 live used (reparent v ms o)
+      → Looks m live used v → ((rewrite_parents n m c o).1 ≡ Ok tt) × Looks (rewrite_parents n m c o).0 live used (reparent v ms o)
   unfolding rewrite_parents
   looks_rewrite ms zero m v c o e l a w h L = absurd (not-suc-le-zero h)
   looks_rewrite [] (suc n) m v c o e l a w h L = simp (eq-eqb c 0 e) (refl, rw (reparent_none v o) L)
@@ -141,12 +140,12 @@ module _ (live : ℕ → Type 0) (N : Nodes live) (used : ℕ) where
   pub looks-transplant : (x : ℕ) (ms : List ℕ) (n : ℕ) (m : List ℕ) (v : View) (o p q : ℕ) → Linked (v nxt) (x ∷ ms) → All live (x ∷ ms)
       → Off o (x ∷ ms)
       → length (x ∷ ms) < n → NoneOr live o → NoneOr live p → NoneOr live q → Looks m live used v
-      → ((transplanted n m x (last_or x ms) o p q).1 ≡ Done) × Looks (transplanted n m x (last_or x ms) o p q).0 live used (transplant v o p q (x ∷ ms))
+      → ((transplanted n m x (last_or x ms) o p q).1 ≡ Ok tt) × Looks (transplanted n m x (last_or x ms) o p q).0 live used (transplant v o p q (x ∷ ms))
   unfolding transplanted transplant
   looks-transplant x ms n m v o p q l a w h ho hp hq L =
       let (e, K) = looks_rewrite (x ∷ ms) n m v x o refl l a w h L in (
         e,
-        subst (λ (s : Placed). Looks (joined s (rewrite_parents n m x o).0 x (last_or x ms) o p q) live used (transplant v o p q (x ∷ ms)))
+        subst (λ (s : Result Unit ConsistencyError). Looks (joined s (rewrite_parents n m x o).0 x (last_or x ms) o p q) live used (transplant v o p q (x ∷ ms)))
             (sym e)
             (looks-connect live N used _ _ o (last_or x ms) q ho (inr (all_in live (x ∷ ms) a (last_or x ms) (last_in x ms))) hq (looks-connect live N used _ _ o p x ho hp (inr a.0) K)),
       )

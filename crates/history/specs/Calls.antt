@@ -7,12 +7,9 @@ use Rattle.rules.specs.declared.answer.Answer.{Answer}
 use Rattle.rules.specs.declared.answer.Reply.{Reply}
 use Rattle.sound.specs.Guard.{validated, guarded, guarded_read}
 use Rattle.arena.specs.Reads.{read_word, set_number, cleared}
-use Rattle.arena.specs.Census.{census_call, live_call}
-use Rattle.arena.specs.declared.census.Counted.{Counted}
-use Rattle.walk.specs.Walks.{started, walked}
+use Rattle.arena.specs.Census.{Counted, census_call, live_call}
+use Rattle.walk.specs.Walks.{Started, Walked, started, walked}
 use Rattle.walk.specs.declared.walk.Traverse.{Traverse}
-use Rattle.walk.specs.declared.walk.Started.{Started}
-use Rattle.walk.specs.declared.walk.Walked.{Walked}
 use Rattle.lists.specs.Listing.{listed, levels_listed, counted, guarded_list}
 use Rattle.lists.specs.declared.order.Order.{Order}
 use Rattle.subtree.specs.Compare.{subtrees_compared}

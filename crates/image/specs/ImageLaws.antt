@@ -1,12 +1,14 @@
 -- The image has 11 + 28 × used bytes; its parts, written one after another, are the image laid over what was there.
 -- Memory with a run laid over it, and that run alone, have the same slots in use.
-use Rattle.std.specs.Prelude.{◌≡◌, refl, List, ◌++◌, ℕ, ◌+◌, ◌*◌, ◌≤◌, ◌<◌, eqb, length, get_or, take, drop, replicate}
+use Rattle.std.specs.Prelude.{◌≡◌, refl, Bool, true, false, cond, ◌&&◌, List, [], ◌∷◌, ◌++◌, ℕ, ◌+◌, ◌*◌, ◌≤◌, ◌<◌, eqb, length, get_or, take, drop, replicate}
+use Rattle.std.specs.List.{starts_with}
 use Rattle.std.proofs.Common.{sym, ap, ap₂, ◌∙◌, arith, length-append, length-take-le, drop_at}
 use Rattle.std.proofs.Math.ListN.{get_or-append}
 use Rattle.std.proofs.lemmas.List.Edits.{sets, sets-eq}
 use Rattle.std.proofs.Math.Seq.{set-append_left}
 use borrow.Author.Tests.{eq-eqb}
 use Rattle.link.specs.Words.{width, place, word, set_word}
+use Rattle.link.specs.StampLaws.{eqb_same}
 use Rattle.link.specs.declared.header.Header.{Header}
 use Rattle.little_endian.specs.Bytes.{bytes_of, with_number, bytes_of_each}
 use Rattle.little_endian.specs.RunLaws.{sets-append, length-each}
@@ -80,3 +82,17 @@ module _ (bytes : List ℕ) (first : get_or bytes 0 0 ≡ 76) where
   pub marked-two : get_or bytes 1 0 ≡ 70 → eqb (get_or bytes 2 0) 84 ≡ marked_b bytes
   unfolding marked_b
   marked-two second = rw (eq-eqb (get_or bytes 0 0) 76 first, eq-eqb (get_or bytes 1 0) 70 second)
+
+-- and as the first bytes
+pub starts-marked : (bytes : List ℕ) → prefix ≤ length bytes → starts_with eqb bytes mark ≡ marked_b bytes
+unfolding marked_b
+starts-marked (a ∷ (b ∷ (c ∷ rest))) h = rw (eqb_same 76 a a 76 sym sym, eqb_same 70 b b 70 sym sym, eqb_same 84 c c 84 sym sym) (by (eqb a 76) (eqb b 70) (eqb c 84))
+  where
+    by : (x y z : Bool) → (x && (y && (z && true))) ≡ cond x (cond y z false) false
+    by true true true = refl
+    by true true false = refl
+    by true false z = refl
+    by false y z = refl
+starts-marked (a ∷ (b ∷ [])) h = absurd (omega arith)
+starts-marked (a ∷ []) h = absurd (omega arith)
+starts-marked [] h = absurd (omega arith)

@@ -1,9 +1,10 @@
 -- Load: its own order of tests, and what is left of memory, scratch and header, on any bytes and any memory.
 -- Excluded: VERSION before MARK; a header kept by a refused load; the destination's words left standing after INVALID.
-use Rattle.std.specs.Prelude.{Bool, cond, not, List, ℕ, ◌*◌, eqb, ltb, length}
+use Rattle.std.specs.Prelude.{Bool, cond, not, List, ℕ, ◌*◌, eqb, ltb, length, Result}
 use Rattle.link.specs.Words.{width, capacity_of}
 use Rattle.link.specs.declared.header.Header.{Header}
-use Rattle.rules.specs.Answers.{DONE, SCRATCH, INVALID, ROOM, MARK, VERSION, LENGTH, answer, header}
+use Rattle.rules.specs.Answers.{DONE, SCRATCH, INVALID, ROOM, MARK, VERSION, LENGTH, answer, answer_changed, header}
+use Rattle.rules.specs.declared.answer.Refusal.{Refusal}
 use Rattle.rules.specs.declared.answer.Answer.{Answer}
 use Rattle.examine.specs.Scratch.{zeroed}
 use Rattle.examine.specs.Verdicts.{sound_b}
@@ -44,6 +45,10 @@ load_no bytes lent scratch = load_no_with (not (sound_b (examined (words_in byte
 -- The header answered by any refused load is all zero.
 abbrev pub refused_load : ℕ → Answer
 refused_load number = answer (header 0 0 0) number 0
+
+-- What a load hands back, in numbers: the header that it leaves, or a refusal with a header all zero.
+abbrev pub loaded_of : Result Header Refusal → Answer
+loaded_of = answer_changed (header 0 0 0)
 
 -- Words, scratch and answer.
 unfoldable pub loaded : List ℕ → List ℕ → List ℕ → List ℕ × List ℕ × Answer

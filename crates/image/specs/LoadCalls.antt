@@ -23,7 +23,7 @@ use Rattle.examine.specs.Examination.{links_ok, examined}
 use Rattle.examine.specs.declared.chain.Verdict.{Verdict}
 use Rattle.examine.specs.declared.chain.Verdict.TheVariants.{Unsound, Spent, Ready}
 use Rattle.sound.specs.GuardLaws.{capacity-fits}
-use Rattle.image.specs.Image.{prefix, used_in, header_in, words_in, laid}
+use Rattle.image.specs.Image.{prefix, image_length, used_in, header_in, words_in, laid}
 use Rattle.image.specs.ImageLaws.{sets-laid, laid-over, zeroed-laid, word-append}
 use Rattle.image.specs.Unlink.{unlinked}
 use Rattle.image.specs.UnlinkLaws.{length-unlink_run}
@@ -31,7 +31,7 @@ use Rattle.image.specs.UnlinkAppend.{unlink-append}
 use Rattle.image.specs.UnlinkReady.{unlink-ready}
 use Rattle.image.specs.Same.{examined-same}
 use Rattle.image.specs.Load.{load_no_with, load_no, refused_load, loaded, settled}
-use Rattle.image.specs.LoadLaws.{Passed, passed, refuses}
+use Rattle.image.specs.LoadLaws.{Passed, passes, passed, refuses}
 
 module _ (m : List ℕ) (h : Header) where
   pub settled_unsound : {v : Verdict} {w : List ℕ} {r : Answer} → v ≡ Unsound → w ≡ zeroed (width * h.used) m → r ≡ refused_load INVALID → (w, r) ≡ settled v m h
@@ -53,6 +53,16 @@ module _ (m : List ℕ) (h : Header) where
       by false q = absurd (false≢true q)
 
 module _ (bytes words scratch : List ℕ) where
+  -- What the tests before the words leave to the calls after them.
+  pub admitted : DONE ≡ load_no_with false bytes (length words) (length scratch) → {h : Header} → h ≡ header_in bytes
+      → (h.used ≤ most) × (h.used * width ≤ length words) × (image_length h.used ≤ length bytes) × (2 * h.used ≤ length scratch)
+  admitted e {h} f =
+      let w = passes bytes (length words) (length scratch) (sym e) in
+      let s = capacity-fits (length words) (used_in bytes) w.frame in
+      let whole = w.whole in
+      let room = w.room in
+      rw f (s.0, s.1, omega arith, room)
+
   -- A refusal before the words.
   pub loaded-refused : {number : ℕ} → number ≡ load_no_with false bytes (length words) (length scratch) → (number ≡ DONE → ⊥)
       → (words, scratch, refused_load number) ≡ loaded bytes words scratch

@@ -1,6 +1,6 @@
 -- Unlinking, one slot at a time; lengths stay. From its definition alone.
 use Rattle.std.specs.Prelude.{◌≡◌, refl, Bool, true, false, List, eqb, ltb, length}
-use Rattle.std.proofs.Common.{◌∙◌}
+use Rattle.std.proofs.Common.{◌∙◌, sym, ap, ◌⊎◌, inl, inr, lt-ltb, le-ltb, eq-eqb, ne_eqb}
 use Rattle.std.proofs.Math.Bool.{cond}
 use Prim.Native.Nat.{◌-◌, ℕ, zero, suc, ◌<◌, ◌≤◌}
 use native.Mathlib.Omega.{arith}
@@ -34,6 +34,31 @@ module _ (n : ℕ) (m : List ℕ) (used first before x : ℕ) where
           (unlink_run (k - 1) m used first x (word m x NUMBER))))
       by zero g = absurd (omega arith)
       by (suc k) g = simp sub-one
+
+  -- At none, or at a slot that is not in use, it ends.
+  pub unlink-ends : (x ≡ 0) ⊎ ((x ≡ 0 → ⊥) × (used < x)) → unlink_run n m used first before x ≡ (m, header used first before)
+  unfolding unlink_run
+  unlink-ends e = by n e
+    where
+      by : (k : ℕ) → (x ≡ 0) ⊎ ((x ≡ 0 → ⊥) × (used < x)) → unlink_run k m used first before x ≡ (m, header used first before)
+      by zero e = refl
+      by (suc k) (inl z) = simp (eq-eqb x 0 z)
+      by (suc k) (inr q) = simp (ne_eqb x 0 q.0, lt-ltb used x q.1)
+
+  -- A slot in use is taken off where it is spent, and stays where it is not.
+  module _ (k : ℕ) (more : n ≡ suc k) (some : x ≡ 0 → ⊥) (upto : x ≤ used) {stamp next : ℕ} (e : stamp ≡ word m x STAMP) (f : next ≡ word m x NUMBER) where
+    pub unlink-off : eqb (stamp_of stamp) 32768 ≡ true → {w : List ℕ} {ahead : ℕ} → (w, ahead) ≡ bypassed m first before x next
+        → unlink_run n m used first before x ≡ unlink_run k w used ahead before next
+    unfolding unlink_run
+    unlink-off s b =
+        let spent : eqb (stamp_of (word m x STAMP)) 32768 ≡ true = rw (← e) s in
+        rw (more, ne_eqb x 0 some, le-ltb used x upto, spent, ← f) (sym (ap (λ (p : List ℕ × ℕ). unlink_run k p.0 used p.1 before next) b))
+
+    pub unlink-on : eqb (stamp_of stamp) 32768 ≡ false → unlink_run n m used first before x ≡ unlink_run k m used first x next
+    unfolding unlink_run
+    unlink-on s =
+        let kept : eqb (stamp_of (word m x STAMP)) 32768 ≡ false = rw (← e) s in
+        rw (more, ne_eqb x 0 some, le-ltb used x upto, kept, ← f)
 
 pub length-bypassed : (m : List ℕ) (first before x next : ℕ) → length (bypassed m first before x next).0 ≡ length m
 unfolding bypassed

@@ -12,11 +12,12 @@ use link::words::{Slot, get_word, set_word};
 pub fn is_spent(word: u32) -> bool
     ensures { result ≡ eqb (stamp_of word) 32768 }
 {
-    let stamp = Stamp::of_bits(word % 65536);
-    stamp.is_spent()
+    Stamp::of_bits(word % 65536).is_spent()
 }
 
 // Takes a slot off the chain: the slot before it, or the chain's first, which is answered, leads past it.
+// Where there is no slot before it, `previous` is 0 and not an `Option`: document 01 writes none as 0 into the words.
+#[tactic(auto, unfolding(crate::specs::Unlink::bypassed))]
 pub fn bypass(words: &mut [u32], first: u32, previous: u32, slot: u32, next: u32) -> u32
     requires { (0 < slot) × (slot * width ≤ length words.old) × (previous * width ≤ length words.old) }
     ensures { (words.new, result) ≡ bypassed words.old first previous slot next }
@@ -38,30 +39,16 @@ pub fn unlink_exhausted_free_slots(words: &mut [u32], h: Header) -> Header
     let mut first = h.first;
     let mut previous: u32 = 0;
     let mut slot = first;
-    let mut left = used + 1;
-    while 0 < left {
-        if slot == 0 {
-            return Header {
-                used,
-                first,
-                last: previous,
-            };
-        }
-        if used < slot {
-            return Header {
-                used,
-                first,
-                last: previous,
-            };
+    for _ in 0..=used {
+        if slot == 0 || used < slot {
+            break;
         }
         let next = get_word(words, slot, Slot::NUMBER);
-        left -= 1;
         if is_spent(get_word(words, slot, Slot::STAMP)) {
             first = bypass(words, first, previous, slot, next);
-            slot = next;
-            continue;
+        } else {
+            previous = slot;
         }
-        previous = slot;
         slot = next;
     }
     Header {

@@ -1,6 +1,6 @@
 -- The four moves on words, once over the place: memory after the move holds the forest of the rule, and ready memory stays ready.
 -- The node is detached (forest's DetachWords), then put in (PutIn); what is above it is the same before and after the detach.
-use Rattle.std.specs.Prelude.{◌≡◌, ◌≢◌, ◌⊎◌, length}
+use Rattle.std.specs.Prelude.{◌≡◌, ◌≢◌, ◌⊎◌, length, Result}
 use Rattle.std.proofs.Common.{sym, ◌∙◌, subst, inl, inr, arith}
 use Rattle.std.proofs.Math.Path.{ap}
 use mathlib.Core.List.{List, [], ◌∷◌}
@@ -10,7 +10,7 @@ use Rattle.link.specs.Words.{width, PARENT}
 use Rattle.link.proofs.OnlyLaws.{only-link, only_then, only-detach, only_insert}
 use Rattle.link.specs.Found.{Found}
 use Rattle.link.specs.declared.header.Header.{Header}
-use Rattle.link.specs.declared.siblings_range.Placed.{Placed}
+use Rattle.link.specs.declared.siblings_range.ConsistencyError.{ConsistencyError}
 use Rattle.rules.specs.Links.{par, view}
 use Rattle.rules.specs.Sound.{Ready}
 use Rattle.rules.specs.Forest.{roots, Forest}
@@ -81,7 +81,7 @@ module _ (m : List ℕ) (h : Header) (room : h.used * width ≤ length m) (R : R
     words_are : (n : ℕ) → 2 ≤ n → move_words place n m t x ≡ put_words (detach_words m x) x M.into.key M.into.left M.into.right
     unfolding move_words detach detach_words
     words_are n l =
-        ap (λ (p : List ℕ × Placed). p.0)
+        ap (λ (p : List ℕ × Result Unit ConsistencyError). p.0)
         (put_in (detach_words m x) h M.middle held t x M.number alone found_after ne below place F' M.into n l)
 
     pub move_forested : (n : ℕ) → 2 ≤ n → Forested (move_words place n m t x) h F'

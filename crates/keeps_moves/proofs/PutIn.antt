@@ -1,14 +1,13 @@
 -- A node that stands alone goes where the target has it, once over the place: the links that the code reads are the neighbours that
 -- the rule names, the words written are those of a node put between them, and ready memory stays ready.
-use Rattle.std.specs.Prelude.{◌≡◌, refl, ◌≢◌, ◌⊎◌, List, [], ◌∷◌, ◌++◌, ℕ, ◌*◌, ◌≤◌, length}
+use Rattle.std.specs.Prelude.{◌≡◌, refl, ◌≢◌, ◌⊎◌, List, [], ◌∷◌, ◌++◌, ℕ, ◌*◌, ◌≤◌, length, Result, Ok}
 use Rattle.std.proofs.Common.{sym, ap, ◌∙◌, subst, inl, inr, append-nil, append_assoc, arith}
 use Rattle.link.specs.Words.{width, PARENT, FIRST, LAST, link}
 use Rattle.link.specs.Siblings.{insert_with_neighbors}
 use Rattle.link.specs.Found.{Found}
 use Rattle.link.proofs.OnlyLaws.{only-link, only_then, only-connect}
 use Rattle.link.specs.declared.header.Header.{Header}
-use Rattle.link.specs.declared.siblings_range.Placed.{Placed}
-use Rattle.link.specs.declared.siblings_range.Placed.TheVariants.{Done}
+use Rattle.link.specs.declared.siblings_range.ConsistencyError.{ConsistencyError}
 use Rattle.rules.specs.Lists.{head_or, last_or, In, Off}
 use Rattle.rules.specs.Links.{par, prv, nxt, view}
 use Rattle.rules.specs.Sound.{Ready}
@@ -153,24 +152,24 @@ module _ (m : List ℕ) (h : Header) (F : Forest) (H : Forested m h F) (t x j : 
 
   -- What the code writes.
   pub put_in : (n : ℕ) → 2 ≤ n → insert_with_neighbors n m x (spot place m t).parent (spot place m t).previous (spot place m t).next
-      ≡ (put_words m x P.key P.left P.right, Done)
+      ≡ (put_words m x P.key P.left P.right, Ok tt)
   put_in n l =
       ap (λ (s : Spot). insert_with_neighbors n m x s.parent s.previous s.next) L.reads
       ∙ insert-alone n m x (owner P.key) (last_or 0 P.left) (head_or P.right 0) l some previous-other next-other parent-other
       segment.0 segment.1 segment.2
 
-  pub put_new_lem : (n : ℕ) → 2 ≤ n → put_new place n m t x ≡ (put_words m x P.key P.left P.right, Done)
+  pub put_new_lem : (n : ℕ) → 2 ≤ n → put_new place n m t x ≡ (put_words m x P.key P.left P.right, Ok tt)
   put_new_lem n l = go place L.reads (put_in n l)
     where
       words : List ℕ
       words = put_words m x P.key P.left P.right
 
-      at-spot : Spot → List ℕ × Placed
-      at-spot s = (place_words m x s.parent s.previous s.next, Done)
+      at-spot : Spot → List ℕ × Result Unit ConsistencyError
+      at-spot s = (place_words m x s.parent s.previous s.next, Ok tt)
 
       go : (place : Place) → spot place m t ≡ between (owner P.key) (last_or 0 P.left) (head_or P.right 0)
-          → insert_with_neighbors n m x (spot place m t).parent (spot place m t).previous (spot place m t).next ≡ (words, Done)
-          → put_new place n m t x ≡ (words, Done)
+          → insert_with_neighbors n m x (spot place m t).parent (spot place m t).previous (spot place m t).next ≡ (words, Ok tt)
+          → put_new place n m t x ≡ (words, Ok tt)
       go Append e i = last-alone n m x t l some (λ q. ne (sym q)) segment.2 ∙ ap at-spot e
       go Prepend e i = first_alone n m x t l some (λ q. ne (sym q)) segment.2 ∙ ap at-spot e
       go After e i = i

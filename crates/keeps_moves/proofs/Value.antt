@@ -1,6 +1,6 @@
 -- The four value forms as calls, once over the place. DONE exactly where the target is found and a creation is not FULL; then the call
 -- is a creation and the move of the new node, the forest after it is the rule's; and ready memory stays ready, whatever is answered.
-use Rattle.std.specs.Prelude.{◌≡◌, ◌≢◌, ◌⊎◌, ◌↔◌, Bool, cond, not, get_or}
+use Rattle.std.specs.Prelude.{◌≡◌, ◌≢◌, ◌⊎◌, ◌↔◌, Bool, cond, not, get_or, Result}
 use Rattle.std.proofs.Math.Path.{refl, sym, ap}
 use Rattle.std.proofs.Common.{◌∙◌, subst, inl, inr, arith}
 use Rattle.std.proofs.Math.Bool.{true, false}
@@ -17,7 +17,7 @@ use Rattle.link.proofs.OnlyLaws.{only-link, only_then, only-connect}
 use Rattle.link.specs.Found.{Found, found_b}
 use Rattle.link.specs.FoundLaws.{found_is, is_found}
 use Rattle.link.specs.declared.header.Header.{Header}
-use Rattle.link.specs.declared.siblings_range.Placed.{Placed}
+use Rattle.link.specs.declared.siblings_range.ConsistencyError.{ConsistencyError}
 use Rattle.rules.specs.Answers.{DONE, refusal, answer}
 use Rattle.rules.specs.declared.answer.Answer.{Answer}
 use Rattle.rules.specs.Links.{par, prv, nxt, fst, view}
@@ -121,7 +121,7 @@ module _ (m : List ℕ) (h : Header) (fits : h.used ≤ capacity_of (length m)) 
         words = put_words made.0 x P.key P.left P.right
 
         new-words : (put_new place (h.used + 1) made.0 t x).0 ≡ words
-        new-words = ap (λ (p : List ℕ × Placed). p.0)
+        new-words = ap (λ (p : List ℕ × Result Unit ConsistencyError). p.0)
             (put_new_lem made.0 made.1.header (put F (roots j) (x ∷ [])) held t x j alone target other below place F' P (h.used + 1) enough)
 
         held_after : Forested (put_new place (h.used + 1) made.0 t x).0 made.1.header F'
@@ -146,7 +146,7 @@ module _ (m : List ℕ) (h : Header) (fits : h.used ≤ capacity_of (length m)) 
         move_words_lem =
             ap (λ (w : List ℕ). (insert_with_neighbors n w x (spot place w t).parent (spot place w t).previous (spot place w t).next).0)
             (detach-alone made.0 made.1.header.used x C.found (C.alone par) (C.alone prv) (C.alone nxt))
-            ∙ ap (λ (p : List ℕ × Placed). p.0)
+            ∙ ap (λ (p : List ℕ × Result Unit ConsistencyError). p.0)
             (put_in made.0 made.1.header (put F (roots j) (x ∷ [])) held t x j alone target other below place F' P n enough_after)
           where
             n : ℕ

@@ -7,10 +7,8 @@ use Rattle.rules.specs.Answers.{DONE, reply}
 use Rattle.rules.specs.declared.answer.Reply.{Reply}
 use Rattle.walk.specs.Edges.{mark_of}
 use Rattle.walk.specs.Codes.{edge_word}
-use Rattle.walk.specs.Walks.{started, walked}
+use Rattle.walk.specs.Walks.{Started, Walked, started, walked}
 use Rattle.walk.specs.declared.walk.Traverse.{Traverse}
-use Rattle.walk.specs.declared.walk.Started.{Started}
-use Rattle.walk.specs.declared.walk.Walked.{Walked}
 use Rattle.lift_c.specs.State.{walk_of, state_after, start_call, walk_call}
 
 module _ (m : List ℕ) (used number : ℕ) (w : Traverse) (state : List ℕ) where

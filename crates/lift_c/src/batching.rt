@@ -4,7 +4,7 @@ ghost use Rattle.rules.specs.Answers.{answer};
 ghost use Rattle.batch.specs.Batch.{batched};
 ghost use Rattle.lift_c.specs.Face.{header_of};
 
-use crate::packing::{header_of, put_header};
+use crate::packing::{header_of, put_answer};
 use batch::batch::batch;
 
 pub fn lift_batch(
@@ -18,9 +18,6 @@ pub fn lift_batch(
     ensures { (words.new, scratch.new, answers.new, answer (header_of header.new) result res.new) ≡ batched words.old (header_of header.old) scratch.old trace.now answers.old }
 {
     let h = header_of(header);
-    let answer = batch(words, h, scratch, trace, answers);
-    let after = answer.header;
-    put_header(header, after);
-    *res = answer.result;
-    answer.number
+    let said = batch(words, h, scratch, trace, answers);
+    put_answer(header, res, h, said)
 }

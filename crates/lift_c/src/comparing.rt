@@ -4,7 +4,7 @@ ghost use Rattle.rules.specs.Answers.{reply};
 ghost use Rattle.subtree.specs.Compare.{subtrees_compared};
 ghost use Rattle.lift_c.specs.Face.{header_of};
 
-use crate::packing::header_of;
+use crate::packing::{header_of, put_reply};
 use subtree::subtree_eq;
 
 pub fn lift_subtree_eq(
@@ -21,7 +21,8 @@ pub fn lift_subtree_eq(
 {
     let h = header_of(header);
     let other_h = header_of(other_header);
-    let answer = subtree_eq(words, h, id, other_words, other_h, other_id, scratch);
-    *res = answer.result;
-    answer.number
+    put_reply(
+        res,
+        subtree_eq(words, h, id, other_words, other_h, other_id, scratch),
+    )
 }

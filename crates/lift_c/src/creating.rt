@@ -7,7 +7,7 @@ ghost use Rattle.moves.specs.Values.{value_node};
 ghost use Rattle.moves.specs.declared.place.Place.TheVariants.{Append, Prepend, After, Before};
 ghost use Rattle.lift_c.specs.Face.{header_of};
 
-use crate::packing::{header_of, put_header};
+use crate::packing::{header_of, put_answer};
 use arena::arena::new_node;
 use moves::calls::{append_value, insert_after_value, insert_before_value, prepend_value};
 
@@ -21,11 +21,8 @@ pub fn lift_new_node(
     ensures { (words.new, scratch.new, answer (header_of header.new) result res.new) ≡ new_call words.old (header_of header.old) scratch.old number }
 {
     let h = header_of(header);
-    let answer = new_node(words, h, scratch, number);
-    let after = answer.header;
-    put_header(header, after);
-    *res = answer.result;
-    answer.number
+    let said = new_node(words, h, scratch, number);
+    put_answer(header, res, h, said)
 }
 
 pub fn lift_append_value(
@@ -39,11 +36,8 @@ pub fn lift_append_value(
     ensures { (words.new, scratch.new, answer (header_of header.new) result res.new) ≡ guarded words.old (header_of header.old) scratch.old (value_node Append words.old (header_of header.old) target number) }
 {
     let h = header_of(header);
-    let answer = append_value(words, h, scratch, target, number);
-    let after = answer.header;
-    put_header(header, after);
-    *res = answer.result;
-    answer.number
+    let said = append_value(words, h, scratch, target, number);
+    put_answer(header, res, h, said)
 }
 
 pub fn lift_prepend_value(
@@ -57,11 +51,8 @@ pub fn lift_prepend_value(
     ensures { (words.new, scratch.new, answer (header_of header.new) result res.new) ≡ guarded words.old (header_of header.old) scratch.old (value_node Prepend words.old (header_of header.old) target number) }
 {
     let h = header_of(header);
-    let answer = prepend_value(words, h, scratch, target, number);
-    let after = answer.header;
-    put_header(header, after);
-    *res = answer.result;
-    answer.number
+    let said = prepend_value(words, h, scratch, target, number);
+    put_answer(header, res, h, said)
 }
 
 pub fn lift_insert_after_value(
@@ -75,11 +66,8 @@ pub fn lift_insert_after_value(
     ensures { (words.new, scratch.new, answer (header_of header.new) result res.new) ≡ guarded words.old (header_of header.old) scratch.old (value_node After words.old (header_of header.old) target number) }
 {
     let h = header_of(header);
-    let answer = insert_after_value(words, h, scratch, target, number);
-    let after = answer.header;
-    put_header(header, after);
-    *res = answer.result;
-    answer.number
+    let said = insert_after_value(words, h, scratch, target, number);
+    put_answer(header, res, h, said)
 }
 
 pub fn lift_insert_before_value(
@@ -93,9 +81,6 @@ pub fn lift_insert_before_value(
     ensures { (words.new, scratch.new, answer (header_of header.new) result res.new) ≡ guarded words.old (header_of header.old) scratch.old (value_node Before words.old (header_of header.old) target number) }
 {
     let h = header_of(header);
-    let answer = insert_before_value(words, h, scratch, target, number);
-    let after = answer.header;
-    put_header(header, after);
-    *res = answer.result;
-    answer.number
+    let said = insert_before_value(words, h, scratch, target, number);
+    put_answer(header, res, h, said)
 }

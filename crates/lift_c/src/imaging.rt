@@ -5,9 +5,10 @@ ghost use Rattle.image.specs.Save.{saved};
 ghost use Rattle.image.specs.Load.{loaded};
 ghost use Rattle.lift_c.specs.Face.{header_of};
 
-use crate::packing::{header_of, put_header};
+use crate::packing::{header_of, put_answer, put_reply};
 use image::load::load;
 use image::save::save;
+use link::header::Header;
 
 pub fn lift_save(
     words: &[u32],
@@ -19,9 +20,7 @@ pub fn lift_save(
     ensures { (scratch.new, bytes.new, reply result res.new) ≡ saved words.now (header_of header.now) scratch.old bytes.old }
 {
     let h = header_of(header);
-    let answer = save(words, h, scratch, bytes);
-    *res = answer.result;
-    answer.number
+    put_reply(res, save(words, h, scratch, bytes))
 }
 
 // The header is written by every load; by a refused one, with zeros.
@@ -34,9 +33,6 @@ pub fn lift_load(
 ) -> u32
     ensures { (words.new, scratch.new, answer (header_of header.new) result res.new) ≡ loaded bytes.now words.old scratch.old }
 {
-    let answer = load(bytes, words, scratch);
-    let after = answer.header;
-    put_header(header, after);
-    *res = answer.result;
-    answer.number
+    let said = load(bytes, words, scratch);
+    put_answer(header, res, Header::default(), said)
 }

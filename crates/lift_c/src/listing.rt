@@ -6,7 +6,7 @@ ghost use Rattle.lists.specs.Listing.{listed, levels_listed, counted, guarded_li
 ghost use Rattle.lists.specs.declared.order.Order.TheVariants.{Ancestors, Predecessors, PrecedingSiblings, FollowingSiblings, Children, Descendants, Leaves};
 ghost use Rattle.lift_c.specs.Face.{header_of};
 
-use crate::packing::header_of;
+use crate::packing::{header_of, put_reply};
 use lists::calls::{
     ancestors, breadth_first, children, descendant_count, following_siblings, leaves,
     preceding_siblings, predecessors,
@@ -25,9 +25,7 @@ pub fn lift_descendants(
     ensures { (scratch.new, list.new, reply result res.new) ≡ guarded_list words.now (header_of header.now) scratch.old list.old (listed words.now (header_of header.now).used Descendants id list.old) }
 {
     let h = header_of(header);
-    let answer = descendants(words, h, scratch, id, list);
-    *res = answer.result;
-    answer.number
+    put_reply(res, descendants(words, h, scratch, id, list))
 }
 
 // Those of them that have no children.
@@ -42,9 +40,7 @@ pub fn lift_leaves(
     ensures { (scratch.new, list.new, reply result res.new) ≡ guarded_list words.now (header_of header.now) scratch.old list.old (listed words.now (header_of header.now).used Leaves id list.old) }
 {
     let h = header_of(header);
-    let answer = leaves(words, h, scratch, id, list);
-    *res = answer.result;
-    answer.number
+    put_reply(res, leaves(words, h, scratch, id, list))
 }
 
 // The node, its parent, and so on up.
@@ -59,9 +55,7 @@ pub fn lift_ancestors(
     ensures { (scratch.new, list.new, reply result res.new) ≡ guarded_list words.now (header_of header.now) scratch.old list.old (listed words.now (header_of header.now).used Ancestors id list.old) }
 {
     let h = header_of(header);
-    let answer = ancestors(words, h, scratch, id, list);
-    *res = answer.result;
-    answer.number
+    put_reply(res, ancestors(words, h, scratch, id, list))
 }
 
 // The children in order, without the node.
@@ -76,9 +70,7 @@ pub fn lift_children(
     ensures { (scratch.new, list.new, reply result res.new) ≡ guarded_list words.now (header_of header.now) scratch.old list.old (listed words.now (header_of header.now).used Children id list.old) }
 {
     let h = header_of(header);
-    let answer = children(words, h, scratch, id, list);
-    *res = answer.result;
-    answer.number
+    put_reply(res, children(words, h, scratch, id, list))
 }
 
 // The node and the siblings after it.
@@ -93,9 +85,7 @@ pub fn lift_following_siblings(
     ensures { (scratch.new, list.new, reply result res.new) ≡ guarded_list words.now (header_of header.now) scratch.old list.old (listed words.now (header_of header.now).used FollowingSiblings id list.old) }
 {
     let h = header_of(header);
-    let answer = following_siblings(words, h, scratch, id, list);
-    *res = answer.result;
-    answer.number
+    put_reply(res, following_siblings(words, h, scratch, id, list))
 }
 
 // The node and the siblings before it, the nearest first.
@@ -110,9 +100,7 @@ pub fn lift_preceding_siblings(
     ensures { (scratch.new, list.new, reply result res.new) ≡ guarded_list words.now (header_of header.now) scratch.old list.old (listed words.now (header_of header.now).used PrecedingSiblings id list.old) }
 {
     let h = header_of(header);
-    let answer = preceding_siblings(words, h, scratch, id, list);
-    *res = answer.result;
-    answer.number
+    put_reply(res, preceding_siblings(words, h, scratch, id, list))
 }
 
 // The node, then the previous sibling, else the parent, and so on.
@@ -127,9 +115,7 @@ pub fn lift_predecessors(
     ensures { (scratch.new, list.new, reply result res.new) ≡ guarded_list words.now (header_of header.now) scratch.old list.old (listed words.now (header_of header.now).used Predecessors id list.old) }
 {
     let h = header_of(header);
-    let answer = predecessors(words, h, scratch, id, list);
-    *res = answer.result;
-    answer.number
+    put_reply(res, predecessors(words, h, scratch, id, list))
 }
 
 // The node and all below it, level by level.
@@ -144,9 +130,7 @@ pub fn lift_breadth_first(
     ensures { (scratch.new, list.new, reply result res.new) ≡ guarded_list words.now (header_of header.now) scratch.old list.old (levels_listed words.now (header_of header.now).used id list.old) }
 {
     let h = header_of(header);
-    let answer = breadth_first(words, h, scratch, id, list);
-    *res = answer.result;
-    answer.number
+    put_reply(res, breadth_first(words, h, scratch, id, list))
 }
 
 // How many nodes there are from a node down, the node with them.
@@ -160,7 +144,5 @@ pub fn lift_descendant_count(
     ensures { (scratch.new, reply result res.new) ≡ guarded_read words.now (header_of header.now) scratch.old (counted words.now (header_of header.now).used id) }
 {
     let h = header_of(header);
-    let answer = descendant_count(words, h, scratch, id);
-    *res = answer.result;
-    answer.number
+    put_reply(res, descendant_count(words, h, scratch, id))
 }

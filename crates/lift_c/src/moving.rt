@@ -7,7 +7,7 @@ ghost use Rattle.moves.specs.Detach.{detach_node, detach_children_node};
 ghost use Rattle.moves.specs.declared.place.Place.TheVariants.{Append, Prepend, After, Before};
 ghost use Rattle.lift_c.specs.Face.{header_of};
 
-use crate::packing::{header_of, put_header};
+use crate::packing::{header_of, put_answer};
 use moves::calls::{
     checked_append, checked_detach, checked_detach_children, checked_insert_after,
     checked_insert_before, checked_prepend,
@@ -24,11 +24,8 @@ pub fn lift_checked_append(
     ensures { (words.new, scratch.new, answer (header_of header.new) result res.new) ≡ guarded words.old (header_of header.old) scratch.old (move_node Append words.old (header_of header.old) target moved) }
 {
     let h = header_of(header);
-    let answer = checked_append(words, h, scratch, target, moved);
-    let after = answer.header;
-    put_header(header, after);
-    *res = answer.result;
-    answer.number
+    let said = checked_append(words, h, scratch, target, moved);
+    put_answer(header, res, h, said)
 }
 
 pub fn lift_checked_prepend(
@@ -42,11 +39,8 @@ pub fn lift_checked_prepend(
     ensures { (words.new, scratch.new, answer (header_of header.new) result res.new) ≡ guarded words.old (header_of header.old) scratch.old (move_node Prepend words.old (header_of header.old) target moved) }
 {
     let h = header_of(header);
-    let answer = checked_prepend(words, h, scratch, target, moved);
-    let after = answer.header;
-    put_header(header, after);
-    *res = answer.result;
-    answer.number
+    let said = checked_prepend(words, h, scratch, target, moved);
+    put_answer(header, res, h, said)
 }
 
 pub fn lift_checked_insert_after(
@@ -60,11 +54,8 @@ pub fn lift_checked_insert_after(
     ensures { (words.new, scratch.new, answer (header_of header.new) result res.new) ≡ guarded words.old (header_of header.old) scratch.old (move_node After words.old (header_of header.old) target moved) }
 {
     let h = header_of(header);
-    let answer = checked_insert_after(words, h, scratch, target, moved);
-    let after = answer.header;
-    put_header(header, after);
-    *res = answer.result;
-    answer.number
+    let said = checked_insert_after(words, h, scratch, target, moved);
+    put_answer(header, res, h, said)
 }
 
 pub fn lift_checked_insert_before(
@@ -78,11 +69,8 @@ pub fn lift_checked_insert_before(
     ensures { (words.new, scratch.new, answer (header_of header.new) result res.new) ≡ guarded words.old (header_of header.old) scratch.old (move_node Before words.old (header_of header.old) target moved) }
 {
     let h = header_of(header);
-    let answer = checked_insert_before(words, h, scratch, target, moved);
-    let after = answer.header;
-    put_header(header, after);
-    *res = answer.result;
-    answer.number
+    let said = checked_insert_before(words, h, scratch, target, moved);
+    put_answer(header, res, h, said)
 }
 
 pub fn lift_checked_detach(
@@ -95,11 +83,8 @@ pub fn lift_checked_detach(
     ensures { (words.new, scratch.new, answer (header_of header.new) result res.new) ≡ guarded words.old (header_of header.old) scratch.old (detach_node words.old (header_of header.old) id) }
 {
     let h = header_of(header);
-    let answer = checked_detach(words, h, scratch, id);
-    let after = answer.header;
-    put_header(header, after);
-    *res = answer.result;
-    answer.number
+    let said = checked_detach(words, h, scratch, id);
+    put_answer(header, res, h, said)
 }
 
 pub fn lift_checked_detach_children(
@@ -112,9 +97,6 @@ pub fn lift_checked_detach_children(
     ensures { (words.new, scratch.new, answer (header_of header.new) result res.new) ≡ guarded words.old (header_of header.old) scratch.old (detach_children_node words.old (header_of header.old) id) }
 {
     let h = header_of(header);
-    let answer = checked_detach_children(words, h, scratch, id);
-    let after = answer.header;
-    put_header(header, after);
-    *res = answer.result;
-    answer.number
+    let said = checked_detach_children(words, h, scratch, id);
+    put_answer(header, res, h, said)
 }

@@ -5,7 +5,7 @@ ghost use Rattle.sound.specs.Guard.{guarded};
 ghost use Rattle.removal.specs.Remove.{remove_node, remove_subtree, remove_children};
 ghost use Rattle.lift_c.specs.Face.{header_of};
 
-use crate::packing::{header_of, put_header};
+use crate::packing::{header_of, put_answer};
 use removal::removal::{checked_remove, checked_remove_subtree, remove_children};
 
 pub fn lift_checked_remove(
@@ -18,11 +18,8 @@ pub fn lift_checked_remove(
     ensures { (words.new, scratch.new, answer (header_of header.new) result res.new) ≡ guarded words.old (header_of header.old) scratch.old (remove_node words.old (header_of header.old) id) }
 {
     let h = header_of(header);
-    let answer = checked_remove(words, h, scratch, id);
-    let after = answer.header;
-    put_header(header, after);
-    *res = answer.result;
-    answer.number
+    let said = checked_remove(words, h, scratch, id);
+    put_answer(header, res, h, said)
 }
 
 pub fn lift_checked_remove_subtree(
@@ -35,11 +32,8 @@ pub fn lift_checked_remove_subtree(
     ensures { (words.new, scratch.new, answer (header_of header.new) result res.new) ≡ guarded words.old (header_of header.old) scratch.old (remove_subtree words.old (header_of header.old) id) }
 {
     let h = header_of(header);
-    let answer = checked_remove_subtree(words, h, scratch, id);
-    let after = answer.header;
-    put_header(header, after);
-    *res = answer.result;
-    answer.number
+    let said = checked_remove_subtree(words, h, scratch, id);
+    put_answer(header, res, h, said)
 }
 
 pub fn lift_remove_children(
@@ -52,9 +46,6 @@ pub fn lift_remove_children(
     ensures { (words.new, scratch.new, answer (header_of header.new) result res.new) ≡ guarded words.old (header_of header.old) scratch.old (remove_children words.old (header_of header.old) id) }
 {
     let h = header_of(header);
-    let answer = remove_children(words, h, scratch, id);
-    let after = answer.header;
-    put_header(header, after);
-    *res = answer.result;
-    answer.number
+    let said = remove_children(words, h, scratch, id);
+    put_answer(header, res, h, said)
 }

@@ -2,44 +2,43 @@
 ghost use Rattle.std.specs.Prelude.{◌≡◌};
 ghost use Rattle.rules.specs.Answers.{reply};
 ghost use Rattle.lift_c.specs.Face.{header_of};
-ghost use Rattle.lift_c.specs.State.{walk_of, state_after, start_call, walk_call};
+ghost use Rattle.lift_c.specs.State.{walk_of, state_of, start_call, walk_call};
 
 use crate::packing::header_of;
-use rules::answer::Number;
+use rules::answer::DONE;
 use walk::code::{edge_word, mark_of, step_of};
 use walk::walk::{Traverse, walk, walk_start};
 
 fn walk_of(state: &[u32; 3]) -> Traverse
     ensures { result ≡ walk_of state.now }
 {
+    let [root, edge, mark] = *state;
     Traverse {
-        root: state[0],
-        next: step_of(state[1], state[2]),
+        root,
+        next: step_of(edge, mark),
     }
 }
 
-// Where a walk stands then, by the number answered.
-fn put_walk(words: &[u32], used: u32, number: u32, stands: Traverse, state: &mut [u32; 3])
-    ensures { state.new ≡ state_after words.now used number stands state.old }
+// Where a walk stands then. The calls go by cases and not by `put_reply`: a refused one leaves the state.
+fn put_walk(words: &[u32], used: u32, stands: Traverse, state: &mut [u32; 3])
+    ensures { state.new ≡ state_of words.now used stands }
 {
-    if number == Number::DONE {
-        let root = stands.root;
-        let next = stands.next;
-        let edge = edge_word(words, used, next);
-        let mark = mark_of(next);
-        *state = [root, edge, mark];
-    }
+    let edge = edge_word(words, used, stands.next);
+    let mark = mark_of(stands.next);
+    *state = [stands.root, edge, mark];
 }
 
 pub fn lift_walk_start(words: &[u32], header: &[u32; 3], root: u32, state: &mut [u32; 3]) -> u32
     ensures { (state.new, result) ≡ start_call words.now (header_of header.now) root state.old }
 {
     let h = header_of(header);
-    let answer = walk_start(words, h, root);
-    let number = answer.number;
-    let stands = answer.walk;
-    put_walk(words, h.used, number, stands, state);
-    number
+    match walk_start(words, h, root) {
+        Ok(stands) => {
+            put_walk(words, h.used, stands, state);
+            DONE
+        }
+        Err(refusal) => u32::from(refusal),
+    }
 }
 
 pub fn lift_walk(
@@ -53,11 +52,15 @@ pub fn lift_walk(
     ensures { (list.new, state.new, reply result res.new) ≡ walk_call words.now (header_of header.now) state.old budget list.old }
 {
     let h = header_of(header);
-    let from = walk_of(state);
-    let answer = walk(words, h, from, budget, list);
-    let number = answer.number;
-    let stands = answer.walk;
-    put_walk(words, h.used, number, stands, state);
-    *res = answer.result;
-    number
+    match walk(words, h, walk_of(state), budget, list) {
+        Ok(yielded) => {
+            put_walk(words, h.used, yielded.walk, state);
+            *res = yielded.count;
+            DONE
+        }
+        Err(refusal) => {
+            *res = 0;
+            u32::from(refusal)
+        }
+    }
 }

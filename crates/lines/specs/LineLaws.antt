@@ -1,10 +1,11 @@
--- Digits stored from the last one back, and lines one after another.
+-- Digits stored from the last one back, how many there are, and lines one after another.
 -- From the definitions alone.
 use Rattle.std.specs.Prelude.{◌≡◌, Bool, true, false, cond, List, [], ◌∷◌, ◌++◌, ltb, get_or, set}
 use Rattle.std.proofs.Math.Path.{refl, sym, ap}
 use Rattle.std.proofs.Common.{◌∙◌, sub-one}
-use Prim.Native.Nat.{ℕ, zero, suc, ◌+◌, ◌-◌, ◌*◌, ◌/◌, ◌%◌, ◌<◌, ◌≤◌}
+use Prim.Native.Nat.{ℕ, zero, suc, ◌+◌, ◌-◌, ◌*◌, ◌/◌, ◌%◌, ◌^◌, ◌<◌, ◌≤◌, max}
 use native.Mathlib.Omega.{arith}
+use Rattle.std.proofs.lemmas.Bool.Decides.{nat_tests}
 use Rattle.std.proofs.Math.ListN.{get_or-append, length, length-append}
 use Rattle.std.proofs.Math.Seq.{sets, length-sets}
 use Rattle.std.proofs.lemmas.List.{set_comm}
@@ -63,6 +64,21 @@ digits_one l at k n e =
     let p : at + (k - 1) ≡ at = omega arith in
     digits_last l at k n (omega arith) ∙ digits_none (set l (at + (k - 1)) (48 + n % 10)) at (k - 1) (n / 10) (omega arith)
     ∙ ap (λ (j : ℕ). set l j (48 + n % 10)) p
+
+-- from the power of ten below a number
+pub places-log : (n k : ℕ) → 10 ^ k ≤ max n 1 → max n 1 < 10 * 10 ^ k → k < 10 → k + 1 ≡ places_of n
+unfolding places_of
+places-log n zero low high few = grind (arith, nat_tests)
+places-log n (suc zero) low high few = grind (arith, nat_tests)
+places-log n (suc (suc zero)) low high few = grind (arith, nat_tests)
+places-log n (suc (suc (suc zero))) low high few = grind (arith, nat_tests)
+places-log n (suc (suc (suc (suc zero)))) low high few = grind (arith, nat_tests)
+places-log n (suc (suc (suc (suc (suc zero))))) low high few = grind (arith, nat_tests)
+places-log n (suc (suc (suc (suc (suc (suc zero)))))) low high few = grind (arith, nat_tests)
+places-log n (suc (suc (suc (suc (suc (suc (suc zero))))))) low high few = grind (arith, nat_tests)
+places-log n (suc (suc (suc (suc (suc (suc (suc (suc zero)))))))) low high few = grind (arith, nat_tests)
+places-log n (suc (suc (suc (suc (suc (suc (suc (suc (suc zero))))))))) low high few = grind (arith, nat_tests)
+places-log n (suc (suc (suc (suc (suc (suc (suc (suc (suc (suc k)))))))))) low high few = absurd (omega arith)
 
 pub places-bound : (n : ℕ) → places_of n ≤ 10
 unfolding places_of

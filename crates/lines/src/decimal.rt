@@ -3,56 +3,24 @@ ghost use Rattle.std.specs.Prelude.{◌≡◌, List, ℕ, ◌+◌, ◌≤◌, le
 ghost use Rattle.std.proofs.lemmas.List.Edits.{sets};
 ghost use Rattle.lines.specs.Decimal.{places_of, digits_of, text_of};
 
+// Bytes and place come apart, as std's definition `sets` takes them: numbers are written one behind another to lent bytes.
+
 // How many digits a number has.
 pub fn places(n: u32) -> usize
     ensures { result ≡ places_of n }
 {
-    if n < 10 {
-        return 1;
-    }
-    if n < 100 {
-        return 2;
-    }
-    if n < 1000 {
-        return 3;
-    }
-    if n < 10000 {
-        return 4;
-    }
-    if n < 100000 {
-        return 5;
-    }
-    if n < 1000000 {
-        return 6;
-    }
-    if n < 10000000 {
-        return 7;
-    }
-    if n < 100000000 {
-        return 8;
-    }
-    if n < 1000000000 {
-        return 9;
-    }
-    10
+    n.max(1).ilog10() as usize + 1
 }
 
-// The last k digits, from the last one back, two at a time.
+// The last k digits, from the last one back.
 fn put_digits(out: &mut [u8], at: usize, k: usize, n: u32)
     requires { at + k ≤ length out.old }
     ensures { out.new ≡ sets out.old at (digits_of k n) }
 {
-    let mut i = k;
     let mut rest = n;
-    while i > 1 {
-        i -= 2;
-        let pair = rest % 100;
-        out[at + i + 1] = (48 + pair % 10) as u8;
-        out[at + i] = (48 + pair / 10) as u8;
-        rest /= 100;
-    }
-    if i == 1 {
-        out[at] = (48 + rest % 10) as u8;
+    for i in (0..k).rev() {
+        out[at + i] = b'0' + (rest % 10) as u8;
+        rest /= 10;
     }
 }
 

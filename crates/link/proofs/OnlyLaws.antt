@@ -1,14 +1,14 @@
 -- Each piece of surgery touches links only, and only of the slots that its identifiers name. One law for a write, over the
 -- link; one for doing one thing after another; the rest puts these together.
-use Rattle.std.specs.Prelude.{◌≡◌, refl, Bool, true, false, cond, List, [], ◌∷◌, ◌++◌, ℕ, zero, suc, ◌≤◌, eqb}
+use Rattle.std.specs.Prelude.{◌≡◌, refl, Bool, true, false, cond, List, [], ◌∷◌, ◌++◌, ℕ, zero, suc, ◌≤◌, eqb, Result, Ok, Err}
 use Rattle.std.proofs.Common.{ap, ◌∙◌, subst, arith}
 use Rattle.link.specs.Words.{PARENT, PREVIOUS, NEXT, FIRST, LAST, link, set_link}
 use Rattle.link.specs.WordLaws.{length-set_link, set_link-other, set_link-slot, link-other}
 use Rattle.link.specs.Relations.{connect_neighbors}
 use Rattle.link.specs.Siblings.{detach_range, rewrite_parents, joined, transplanted, insert_with_neighbors, insert_last, insert_first}
 use Rattle.link.specs.Only.{Other, Only, along}
-use Rattle.link.specs.declared.siblings_range.Placed.{Placed}
-use Rattle.link.specs.declared.siblings_range.Placed.TheVariants.{Done, SiblingsLoop, ParentChildLoop, OutOfSteps}
+use Rattle.link.specs.declared.siblings_range.ConsistencyError.{ConsistencyError}
+use Rattle.link.specs.declared.siblings_range.ConsistencyError.TheVariants.{SiblingsLoop, ParentChildLoop}
 
 other-left : (t : ℕ) (xs ys : List ℕ) → Other t (xs ++ ys) → Other t xs
 other-left t [] ys h = tt
@@ -85,7 +85,7 @@ only_rewrite (suc n) m child parent = by (eqb child 0) (eqb child parent)
 
     by : (a b : Bool) → Only (along n m₁ (link m₁ child NEXT)) m₁ (rewrite_parents n m₁ (link m₁ child NEXT) parent).0
         → Only (child ∷ along n m (link m child NEXT)) m
-        (cond a (m, Done) (cond b (m, ParentChildLoop) (rewrite_parents n m₁ (link m₁ child NEXT) parent))).0
+        (cond a (m, Ok tt) (cond b (m, Err ParentChildLoop) (rewrite_parents n m₁ (link m₁ child NEXT) parent))).0
     by true b ih = only_none _ m
     by false true ih = only_none _ m
     by false false ih =
@@ -93,14 +93,12 @@ only_rewrite (suc n) m child parent = by (eqb child 0) (eqb child parent)
         (subst (λ (ids : List ℕ). Only ids m₁ (rewrite_parents n m₁ (link m₁ child NEXT) parent).0)
         (along-ap n m m₁ (link m₁ child NEXT) same ∙ ap (along n m) (same child)) ih)
 
-only-joined : (s : Placed) (m : List ℕ) (first last parent previous next : ℕ)
+only-joined : (s : Result Unit ConsistencyError) (m : List ℕ) (first last parent previous next : ℕ)
     → Only (parent ∷ previous ∷ first ∷ last ∷ next ∷ []) m (joined s m first last parent previous next)
-only-joined Done m first last parent previous next =
+only-joined (Ok _) m first last parent previous next =
     only-named (λ t o. (o.0, (o.1.0, (o.1.1.0, (o.0, (o.1.1.1.0, (o.1.1.1.1.0, tt)))))))
     (only_then (only-connect m parent previous first) (only-connect _ parent last next))
-only-joined SiblingsLoop m first last parent previous next = only_none _ m
-only-joined ParentChildLoop m first last parent previous next = only_none _ m
-only-joined OutOfSteps m first last parent previous next = only_none _ m
+only-joined (Err _) m first last parent previous next = only_none _ m
 
 -- The range, its new parent and its new neighbours.
 pub only-transplant : (n : ℕ) (m : List ℕ) (first last parent previous next : ℕ)
@@ -123,7 +121,7 @@ only_insert n m new parent previous next = by (eqb previous new) (eqb next new) 
         ∷ (along n (detach_range m new new) new ++ (parent ∷ previous ∷ new ∷ new ∷ next ∷ []))
 
     by : (a b c : Bool) → Only ids m
-        (cond a (m, SiblingsLoop) (cond b (m, SiblingsLoop) (cond c (m, ParentChildLoop)
+        (cond a (m, Err SiblingsLoop) (cond b (m, Err SiblingsLoop) (cond c (m, Err ParentChildLoop)
         (transplanted n (detach_range m new new) new new parent previous next)))).0
     by true b c = only_none ids m
     by false true c = only_none ids m

@@ -1,9 +1,9 @@
 -- Stamps step by one at each hand-out; a stamp and its 16 bits determine each other (P5 follows).
-use Rattle.std.specs.Prelude.{◌≡◌, refl, Bool, true, false, ◌⊎◌, ◌-◌, ℕ, zero, suc, ◌<◌, eqb, ltb, leb, ℤ, pos, negsuc}
+use Rattle.std.specs.Prelude.{◌≡◌, refl, Bool, true, false, cond, ◌⊎◌, ◌-◌, ℕ, zero, suc, ◌<◌, eqb, ltb, leb, ℤ, pos, negsuc}
 use Rattle.std.proofs.Common.{sym, ap, ◌∙◌, inl, inr, arith, le-leb, leb-true, leb-false, le-ltb, lt-ltb, eq-eqb, ne_eqb, eqb-true}
 use Rattle.std.proofs.Math.IntN as ints
 use Rattle.std.proofs.lemmas.Bool.{lt-leb, eqb-false}
-use Rattle.link.specs.Stamps.{Live, Removed, Reusable, pick, removed_stamp, reused_stamp, is_removed, is_spent, handed_out, bits_of, stamp_of_bits, removed_bits, reused_bits}
+use Rattle.link.specs.Stamps.{Live, Removed, Reusable, removed_stamp, reused_stamp, is_removed, is_spent, bits_of, stamp_of_bits, removed_bits, reused_bits}
 
 -- Removing n gives −n − 1, which is how the integers of the library are made.
 pub removed-negsuc : (n : ℕ) → removed_stamp (pos n) ≡ negsuc n
@@ -27,14 +27,14 @@ reused_bits_lem (pos _) h = elim h [ ]
 pub stamp-bits : (b : ℕ) → b < 65536 → bits_of (stamp_of_bits b) ≡ b
 stamp-bits b h = by (leb b 32767)
   where
-    by : (t : Bool) → bits_of (pick t (pos b) (negsuc (65535 - b))) ≡ b
+    by : (t : Bool) → bits_of (cond t (pos b) (negsuc (65535 - b))) ≡ b
     by true = refl
     by false = omega arith
 
 pub bits-stamp : (z : ℤ) → Live z ⊎ Removed z → stamp_of_bits (bits_of z) ≡ z
-bits-stamp (pos n) (inl h) = ap (λ (t : Bool). pick t (pos n) (negsuc (65535 - n))) (le-leb n 32767 h)
+bits-stamp (pos n) (inl h) = ap (λ (t : Bool). cond t (pos n) (negsuc (65535 - n))) (le-leb n 32767 h)
 bits-stamp (negsuc n) (inr h) =
-    ap (λ (t : Bool). pick t (pos (65535 - n)) (negsuc (65535 - (65535 - n)))) (lt-leb (65535 - n) 32767 (omega arith))
+    ap (λ (t : Bool). cond t (pos (65535 - n)) (negsuc (65535 - (65535 - n)))) (lt-leb (65535 - n) 32767 (omega arith))
     ∙ ap negsuc (omega arith)
 bits-stamp (negsuc n) (inl h) = elim h [ ]
 bits-stamp (pos n) (inr h) = elim h [ ]
@@ -51,14 +51,14 @@ eqb_same a b c d f g = by (eqb a b) refl
 pub removed-of_bits : (b : ℕ) → is_removed (stamp_of_bits b) ≡ ltb 32767 b
 removed-of_bits b = by (leb b 32767) refl
   where
-    by : (t : Bool) → leb b 32767 ≡ t → is_removed (pick t (pos b) (negsuc (65535 - b))) ≡ ltb 32767 b
+    by : (t : Bool) → leb b 32767 ≡ t → is_removed (cond t (pos b) (negsuc (65535 - b))) ≡ ltb 32767 b
     by true e = sym (le-ltb 32767 b (leb-true b 32767 e))
     by false e = sym (lt-ltb 32767 b (leb-false b 32767 e))
 
 pub spent-of_bits : (b : ℕ) → b < 65536 → is_spent (stamp_of_bits b) ≡ eqb b 32768
 spent-of_bits b h = by (leb b 32767) refl
   where
-    by : (t : Bool) → leb b 32767 ≡ t → is_spent (pick t (pos b) (negsuc (65535 - b))) ≡ eqb b 32768
+    by : (t : Bool) → leb b 32767 ≡ t → is_spent (cond t (pos b) (negsuc (65535 - b))) ≡ eqb b 32768
     by true e = let l = leb-true b 32767 e in sym (ne_eqb b 32768 (λ (q : b ≡ 32768). omega arith))
     by false e = eqb_same (65535 - b) 32767 b 32768 (λ (q : 65535 - b ≡ 32767). omega arith) (λ (q : b ≡ 32768). omega arith)
 

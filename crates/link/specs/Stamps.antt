@@ -1,6 +1,6 @@
 -- Stamps, as document 01 has them: a signed 16-bit number, negative once removed; and the 16 bits of word 0 that hold one.
 -- Excluded: removing stamp 5 to −5 (the next hand-out would be 5 again); taking 65,535 for a live stamp.
-use Rattle.std.specs.Prelude.{Bool, true, false, ◌-◌, ℕ, zero, suc, ◌≤◌, eqb, leb, ◌-ℤ◌, ℤ, pos, negsuc, neg_ℤ}
+use Rattle.std.specs.Prelude.{Bool, true, false, cond, ◌-◌, ℕ, zero, suc, ◌≤◌, eqb, leb, ◌-ℤ◌, ℤ, pos, negsuc, neg_ℤ}
 
 -- A stamp that a slot is handed out with: 0 to 32,767. (`pos n` is n, `negsuc n` is −n − 1.)
 abbrev pub Live : ℤ → Type 0
@@ -44,12 +44,8 @@ abbrev pub bits_of : ℤ → ℕ
 bits_of (pos n) = n
 bits_of (negsuc n) = 65535 - n
 
-abbrev pub pick : Bool → ℤ → ℤ → ℤ
-pick true a b = a
-pick false a b = b
-
 abbrev pub stamp_of_bits : ℕ → ℤ
-stamp_of_bits b = pick (leb b 32767) (pos b) (negsuc (65535 - b))
+stamp_of_bits b = cond (leb b 32767) (pos b) (negsuc (65535 - b))
 
 -- The same steps on the bits, which is what a word holds.
 abbrev pub removed_bits : ℕ → ℕ

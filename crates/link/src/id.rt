@@ -1,4 +1,4 @@
-// Stamps and identifiers, and when an identifier is found. An identifier is slot × 65,536 + stamp; 0 is none.
+// Stamps and identifiers, and when an identifier is found. An identifier is slot × 65,536 + stamp; 0 is none, as words and C hold it.
 // A stamp steps by `i16` negation; −32,768 is never negated.
 ghost use Rattle.std.specs.Prelude.{◌≡◌, ◌<◌, pos};
 ghost use Rattle.link.specs.Stamps.{Live, Reusable, removed_stamp, reused_stamp, is_removed, is_spent, bits_of, stamp_of_bits};
@@ -8,15 +8,15 @@ ghost use Rattle.link.specs.Found.{found_b};
 use crate::words::{Slot, link_of};
 
 // The stamp of a slot: how often it was handed out and taken back. Negative means removed.
-#[derive(Clone, Copy)]
+#[derive(Clone, Copy, Debug, PartialEq, Eq)]
 pub struct Stamp(pub i16);
 
 impl Stamp {
     // The last stamp that a slot is handed out with.
-    pub const LAST: i16 = 32767;
+    pub const LAST: i16 = i16::MAX;
 
     // What removing the last stamp leaves: such a slot is spent.
-    pub const SPENT: i16 = -32768;
+    pub const SPENT: i16 = i16::MIN;
 
     // The stamp of a slot that was never used.
     pub fn fresh() -> Stamp
@@ -37,47 +37,33 @@ impl Stamp {
         requires { Reusable self.0 }
         ensures { result.0 ≡ reused_stamp self.0 }
     {
-        let s = self.0;
-        Stamp(-s)
+        Stamp(-self.0)
     }
 
     pub fn is_removed(self) -> bool
         ensures { result ≡ is_removed self.0 }
     {
-        let s = self.0;
-        s < 0
+        self.0 < 0
     }
 
     pub fn is_spent(self) -> bool
         ensures { result ≡ is_spent self.0 }
     {
-        let s = self.0;
-        s == Stamp::SPENT
+        self.0 == Stamp::SPENT
     }
 
-    // The 16 bits of word 0 that hold it.
+    // The 16 bits of word 0 that hold it. A function and no `From`, as its inverse: `of_bits` asks for less than 65,536.
     pub fn bits(self) -> u32
         ensures { result ≡ bits_of self.0 }
     {
-        let s = self.0;
-        if s < 0 {
-            let wide = s as i32;
-            (wide + 65536) as u32
-        } else {
-            s as u32
-        }
+        self.0.cast_unsigned() as u32
     }
 
     pub fn of_bits(bits: u32) -> Stamp
         requires { bits < 65536 }
         ensures { result.0 ≡ stamp_of_bits bits }
     {
-        if bits < 32768 {
-            Stamp(bits as i16)
-        } else {
-            let handed_out = Stamp((65535 - bits) as i16);
-            handed_out.removed()
-        }
+        Stamp((bits as u16).cast_signed())
     }
 }
 
@@ -101,19 +87,11 @@ pub fn stamp_of(id: u32) -> u32
 }
 
 // Whether an identifier names a node: a slot in use, of kind 0, with that very stamp.
+#[tactic(auto, unfolding(crate::specs::Found::found_b))]
 pub fn found(words: &[u32], used: u32, id: u32) -> bool
     ensures { result ≡ found_b words.now used id }
 {
     let slot = slot_of(id);
     let low = stamp_of(id);
-    if slot == 0 {
-        return false;
-    }
-    if used < slot {
-        return false;
-    }
-    if 32767 < low {
-        return false;
-    }
-    link_of(words, id, Slot::STAMP) == low
+    slot != 0 && low <= 32767 && slot <= used && link_of(words, id, Slot::STAMP) == low
 }

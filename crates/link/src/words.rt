@@ -3,9 +3,8 @@
 ghost use Rattle.std.specs.Prelude.{◌≡◌, ◌*◌, ◌<◌, ◌≤◌, length};
 ghost use Rattle.link.specs.Words.{width, capacity_of, word, set_word, link, set_link};
 
-// A numbered run of words. Slot 0 is none.
-#[derive(Clone, Copy)]
-pub struct Slot(pub u32);
+// A numbered run of words. Slot 0 is none. Word numbers are numbers and no enum: they are offsets, and `link_of` takes any.
+pub struct Slot;
 
 impl Slot {
     // Words to a slot.
@@ -31,17 +30,17 @@ impl Slot {
 }
 
 // The smaller of the whole slots lent and the greatest slot number.
+#[tactic(auto, unfolding(crate::specs::Words::capacity_of))]
 pub fn capacity(words: &[u32]) -> u32
     ensures { result ≡ capacity_of (length words.now) }
 {
-    let whole = words.len() / Slot::WORDS;
-    if whole < (Slot::MOST as usize) {
-        return whole as u32;
-    }
-    Slot::MOST
+    (words.len() / Slot::WORDS).min(Slot::MOST as usize) as u32
 }
 
+// Where a word lies is one line in each of these four functions: a function for it would have a contract that says no more.
+
 // Word k of a slot that lies within the memory.
+#[tactic(auto, unfolding(crate::specs::Words::word))]
 pub fn get_word(words: &[u32], slot: u32, k: u32) -> u32
     requires { (0 < slot) × (slot * width ≤ length words.now) × (k < width) }
     ensures { result ≡ word words.now slot k }
@@ -51,6 +50,7 @@ pub fn get_word(words: &[u32], slot: u32, k: u32) -> u32
 }
 
 // Sets word k of a slot that lies within the memory.
+#[tactic(auto, unfolding(crate::specs::Words::set_word))]
 pub fn set_word(words: &mut [u32], slot: u32, k: u32, v: u32)
     requires { (0 < slot) × (slot * width ≤ length words.old) × (k < width) }
     ensures { words.new ≡ set_word words.old slot k v }
@@ -60,6 +60,7 @@ pub fn set_word(words: &mut [u32], slot: u32, k: u32, v: u32)
 }
 
 // Word k of the slot that an identifier names.
+#[tactic(auto, unfolding(crate::specs::Words::link, crate::specs::Words::word))]
 pub fn link_of(words: &[u32], id: u32, k: u32) -> u32
     ensures { result ≡ link words.now id k }
 {
@@ -68,13 +69,11 @@ pub fn link_of(words: &[u32], id: u32, k: u32) -> u32
         return 0;
     }
     let i = (slot - 1) * Slot::WORDS + (k as usize);
-    if i < words.len() {
-        return words[i];
-    }
-    0
+    words.get(i).copied().unwrap_or(0)
 }
 
 // Sets word k of the slot that an identifier names.
+#[tactic(auto, unfolding(crate::specs::Words::set_link, crate::specs::Words::set_word))]
 pub fn set_link(words: &mut [u32], id: u32, k: u32, v: u32)
     ensures { words.new ≡ set_link words.old id k v }
 {
@@ -83,6 +82,7 @@ pub fn set_link(words: &mut [u32], id: u32, k: u32, v: u32)
         return;
     }
     let at = (slot - 1) * Slot::WORDS + (k as usize);
+    // Not by `get_mut`: a proof knows no element of a slice after its borrow.
     if at < words.len() {
         words[at] = v;
     }

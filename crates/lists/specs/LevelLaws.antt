@@ -10,7 +10,7 @@ use Rattle.std.proofs.Math.Seq.{length-sets, take_at, drop_at}
 use Rattle.walk.specs.Written.{written}
 use Rattle.lists.specs.Orders.{ordered}
 use Rattle.lists.specs.Storing.{stored_at}
-use Rattle.lists.specs.LoopLaws.{ordered-most}
+use Rattle.lists.specs.OrderLaws.{ordered-most}
 use Rattle.lists.specs.Levels.{level_run, level_order}
 use Rattle.lists.specs.declared.order.Order.TheVariants.{Children}
 

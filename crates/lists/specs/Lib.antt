@@ -3,6 +3,8 @@ pub mod Storing
 pub mod OrderLaws
 pub mod OrderLinks
 pub mod LoopLaws
+pub mod Nodes
+pub mod NodeLaws
 pub mod Levels
 pub mod LevelLaws
 pub mod Listing

@@ -1,6 +1,7 @@
 -- A list call put together from its parts: the tests that refuse, the guard before them, and what is written.
 -- From the definitions, by cases on the tests.
-use Rattle.std.specs.Prelude.{◌≡◌, Bool, true, false, not, ltb, length}
+use Rattle.std.specs.Prelude.{◌≡◌, Bool, true, false, not, ltb, length, Result}
+use Rattle.std.specs.Result.{IsErrAnd}
 use Rattle.std.proofs.Common.{sym, ◌∙◌}
 use Rattle.std.proofs.Math.Path.{ap}
 use mathlib.Core.List.{List}
@@ -8,8 +9,10 @@ use Prim.Native.Nat.{ℕ, ◌<◌, ◌≤◌}
 use borrow.Author.Tests.{eq-eqb, ne_eqb, lt-ltb, le-ltb, ltb-true, ltb-false, not-true, not-false}
 use Rattle.link.specs.Found.{found_b}
 use Rattle.link.specs.declared.header.Header.{Header}
-use Rattle.rules.specs.Answers.{DONE, REMOVED, ROOM, refusal, reply}
+use Rattle.rules.specs.Answers.{DONE, REMOVED, ROOM, refusal, reply, refusal_no, reply_by}
+use Rattle.rules.specs.declared.answer.Refusal.{Refusal}
 use Rattle.rules.specs.declared.answer.Reply.{Reply}
+use Rattle.rules.proofs.AnswerLaws.{refused-not_done, reply-refused}
 use Rattle.sound.specs.Guard.{scratch_after, guard_no, guarded_read}
 use Rattle.walk.specs.Written.{written}
 use Rattle.lists.specs.Orders.{ordered}
@@ -105,3 +108,10 @@ module _ (m : List ℕ) (h : Header) (scratch : List ℕ) {scratch' : List ℕ} 
   pub read-refused : (work : Reply) → (no ≡ DONE → ⊥) → (scratch', reply no 0) ≡ guarded_read m h scratch work
   unfolding guarded_read
   read-refused work d = simp (ne_eqb (guard_no m h (length scratch)) DONE (λ e. d (said ∙ e))) (cc)
+
+  -- At the exit of a `?` on the guard, whose refusal e is what the call answers.
+  pub list-err : {A : Type 0} (value : A → ℕ) (places : List ℕ) (work : List ℕ × Reply) (r : Result A Refusal) (e : Refusal)
+      → no ≡ refusal_no e → IsErrAnd r (λ y. y ≡ e) → (scratch', places, reply_by value r) ≡ guarded_list m h scratch places work
+  list-err value places work r e n w =
+      ap (λ (x : Reply). (scratch', places, x)) (reply-refused value r e w ∙ ap (λ (k : ℕ). reply k 0) (sym n))
+      ∙ guarded-refused places work (λ d. refused-not_done e (sym n ∙ d))

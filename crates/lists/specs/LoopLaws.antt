@@ -6,18 +6,14 @@ use Rattle.std.proofs.Math.Path.{ap}
 use Rattle.std.proofs.lemmas.Bool.{lt-leb}
 use Rattle.lists.specs.Orders.{first_of, step_of, keep_b, ordered}
 use Rattle.lists.specs.Storing.{put_if, stored_at}
-use Rattle.lists.specs.OrderLaws.{stored-done, stored-place, list_from, from_out, from-most, length-step, stored-step, kept-some}
+use Rattle.lists.specs.OrderLaws.{stored-done, stored-place, list_from, from_out, length-step, stored-step, kept-some}
 use Rattle.lists.specs.declared.order.Order.{Order}
 
--- A list by an order, and how long it can be.
+-- A list by an order, from the node that comes first.
 module _ (m : List ℕ) (used : ℕ) (order : Order) (root : ℕ) where
   pub from_first : (x : ℕ) → x ≡ first_of m order root → list_from (keep_b m order) (step_of m used order root) used x ≡ ordered m used order root
   unfolding ordered list_from
   from_first x e = ap (list_from (keep_b m order) (step_of m used order root) used) e
-
-  pub ordered-most : length (ordered m used order root) ≤ used
-  unfolding ordered list_from
-  ordered-most = from-most (keep_b m order) (step_of m used order root) used (first_of m order root)
 
 module _ (keep : ℕ → Bool) (step : ℕ → ℕ) where
   -- Counting.

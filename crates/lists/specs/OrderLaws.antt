@@ -14,7 +14,8 @@ use Rattle.link.specs.Words.{PARENT, NEXT, link}
 use Rattle.walk.specs.Written.{written}
 use Rattle.walk.specs.WrittenLaws.{sets-written, sets_more}
 use Rattle.lists.specs.Storing.{put_if, stored_at}
-use Rattle.lists.specs.Orders.{along, kept, after_subtree}
+use Rattle.lists.specs.Orders.{along, kept, after_subtree, first_of, step_of, keep_b, ordered}
+use Rattle.lists.specs.declared.order.Order.{Order}
 
 -- What comes behind a subtree, one ancestor at a time.
 module _ (n : ℕ) (m : List ℕ) (root y : ℕ) where
@@ -113,3 +114,8 @@ module _ (keep : ℕ → Bool) (step : ℕ → ℕ) where
   -- What is kept has its place.
   pub kept-some : (n x : ℕ) → 0 < n → (x ≡ 0 → ⊥) → keep x ≡ true → 0 < length (list_from n x)
   kept-some n x h k e = let l = length-step n x h k in rw (l, e) (omega arith)
+
+-- No list is longer than the slots in use.
+pub ordered-most : (m : List ℕ) (used : ℕ) (order : Order) (root : ℕ) → length (ordered m used order root) ≤ used
+unfolding ordered list_from
+ordered-most m used order root = from-most (keep_b m order) (step_of m used order root) used (first_of m order root)

@@ -42,6 +42,9 @@ far_link Leaves = FIRST
 unfoldable pub link_else : List ℕ → ℕ → ℕ → ℕ → ℕ
 link_else m x near far = cond (eqb (link m x near) 0) (link m x far) (link m x near)
 
+no : false ≡ true → ⊥
+no e = cc
+
 either : (b : Bool) (n : ℕ) → n ≡ cond b n n
 either true n = refl
 either false n = refl
@@ -106,3 +109,37 @@ linked-ordered m used order root {near} {far} {first} d n f e =
 pub linked-children : (m : List ℕ) (n x : ℕ) {first : ℕ} → first ≡ link m x FIRST → linked m NEXT NEXT n first ≡ ordered m n Children x
 unfolding first_of
 linked-children m n x e = linked-ordered m n Children x refl refl refl e
+
+-- All but children begin with the node itself.
+pub first-itself : (m : List ℕ) (order : Order) (x : ℕ) → (order ≡ Children → ⊥) → x ≡ first_of m order x
+unfolding first_of
+first-itself m Ancestors x h = refl
+first-itself m Predecessors x h = refl
+first-itself m PrecedingSiblings x h = refl
+first-itself m FollowingSiblings x h = refl
+first-itself m Children x h = absurd (h refl)
+first-itself m Descendants x h = refl
+first-itself m Leaves x h = refl
+
+-- All but leaves keep every node.
+pub keeps-all : (m : List ℕ) (order : Order) (x : ℕ) → (order ≡ Leaves → ⊥) → true ≡ keep_b m order x
+unfolding keep_b
+keeps-all m Ancestors x h = refl
+keeps-all m Predecessors x h = refl
+keeps-all m PrecedingSiblings x h = refl
+keeps-all m FollowingSiblings x h = refl
+keeps-all m Children x h = refl
+keeps-all m Descendants x h = refl
+keeps-all m Leaves x h = absurd (h refl)
+
+-- What is kept of at most n nodes from the root, where the order goes down.
+pub down-ordered : (m : List ℕ) (used : ℕ) (order : Order) (root : ℕ) → down_b order ≡ true
+    → kept (keep_b m order) (along (next_descendant m used root) used root) ≡ ordered m used order root
+unfolding ordered first_of step_of
+down-ordered m used Ancestors root d = absurd (no d)
+down-ordered m used Predecessors root d = absurd (no d)
+down-ordered m used PrecedingSiblings root d = absurd (no d)
+down-ordered m used FollowingSiblings root d = absurd (no d)
+down-ordered m used Children root d = absurd (no d)
+down-ordered m used Descendants root d = refl
+down-ordered m used Leaves root d = refl

@@ -1,5 +1,5 @@
 -- How a list is written, member by member: each to the next place, and the place behind the last.
--- Excluded: a node that is not kept written to its place; two members written to one place.
+-- Excluded: a node that is not kept written to its place; two members written to one place; a place passed over.
 use Rattle.std.specs.Prelude.{Bool, cond, List, ℕ, ◌+◌, length, set}
 use Rattle.std.proofs.lemmas.List.Edits.{sets}
 

@@ -1,88 +1,28 @@
-// Lists of nodes by an order: counted and written, by one loop each for orders that go down and one for those that go by links.
-// A list is written whole or not at all.
-ghost use Rattle.std.specs.Prelude.{◌≡◌, true, cond, not, ◌+◌, ◌≤◌, ◌<◌, ltb, length};
+// Lists of nodes by an order: counted and written, over the nodes one after another. A list is written whole or not at all.
+ghost use Rattle.std.specs.Prelude.{◌≡◌, true, ◌*◌, not, ◌+◌, ◌≤◌, ltb, length};
+ghost use Rattle.rules.specs.Answers.{reply_of};
 ghost use Rattle.lists.specs.Orders.{ordered};
 ghost use Rattle.lists.specs.OrderLinks.{down_b, linked};
-ghost use Rattle.lists.specs.Storing.{put_if, stored_at};
+ghost use Rattle.lists.specs.Storing.{stored_at};
 ghost use Rattle.lists.specs.Listing.{listed, counted};
 
-use crate::order::{
-    Order, far_link, first_of, goes_down, keeps, link_else, near_link, next_descendant,
-};
+use crate::nodes::{Along, Below};
+use crate::order::Order;
 use link::id::found;
-use rules::answer::{Number, Reply};
-
-fn one_if(keep: bool) -> u32
-    ensures { result ≡ cond keep 1 0 }
-{
-    if keep {
-        return 1;
-    }
-    0
-}
-
-// How long a list is that goes down. Behind the last node that can be, no step is asked for.
-fn count_below(words: &[u32], used: u32, order: Order, root: u32) -> u32
-    requires { down_b order ≡ true }
-    ensures { result ≡ length (ordered words.now used order root) }
-{
-    let mut x = first_of(words, order, root);
-    let mut count: u32 = 0;
-    let mut left = used;
-    while 0 < left {
-        if x == 0 {
-            return count;
-        }
-        count += one_if(keeps(words, order, x));
-        left -= 1;
-        if left == 0 {
-            return count;
-        }
-        x = next_descendant(words, used, root, x);
-    }
-    count
-}
-
-// How long one is that goes by links.
-fn count_along(words: &[u32], used: u32, near: u32, far: u32, first: u32) -> u32
-    ensures { result ≡ length (linked words.now near far used first) }
-{
-    let mut x = first;
-    let mut count: u32 = 0;
-    let mut left = used;
-    while 0 < left {
-        if x == 0 {
-            return count;
-        }
-        count += 1;
-        x = link_else(words, x, near, far);
-        left -= 1;
-    }
-    count
-}
+use rules::answer::Refusal;
 
 // How long the list is.
 pub fn count_listed(words: &[u32], used: u32, order: Order, root: u32) -> u32
     ensures { result ≡ length (ordered words.now used order root) }
 {
-    if goes_down(order) {
-        return count_below(words, used, order, root);
+    if order.goes_down() {
+        let nodes = Below::of(words, used, root);
+        return nodes.filter(|x| order.keeps(words, *x)).count() as u32;
     }
-    let first = first_of(words, order, root);
-    count_along(words, used, near_link(order), far_link(order), first)
+    Along::of(words, used, order, root).count() as u32
 }
 
-// x at a place, where it is kept; the place behind it then.
-fn put_if(list: &mut [u32], at: usize, x: u32, keep: bool) -> usize
-    requires { keep ≡ true → at < length list.old }
-    ensures { (list.new, result) ≡ put_if keep list.old at x }
-{
-    if keep {
-        list[at] = x;
-        return at + 1;
-    }
-    at
-}
+// List and place come apart here, as the definition `stored_at` takes them: lists are written one behind another to a lent list.
 
 // Writes a list that goes down from a place on; the place behind it.
 fn write_below(
@@ -96,19 +36,12 @@ fn write_below(
     requires { (down_b order ≡ true) × (start + length (ordered words.now used order root) ≤ length list.old) }
     ensures { (list.new, result) ≡ stored_at (ordered words.now used order root) list.old start }
 {
-    let mut x = first_of(words, order, root);
     let mut at = start;
-    let mut left = used;
-    while 0 < left {
-        if x == 0 {
-            return at;
+    for x in Below::of(words, used, root) {
+        if order.keeps(words, x) {
+            list[at] = x;
+            at += 1;
         }
-        at = put_if(list, at, x, keeps(words, order, x));
-        left -= 1;
-        if left == 0 {
-            return at;
-        }
-        x = next_descendant(words, used, root, x);
     }
     at
 }
@@ -126,17 +59,17 @@ pub fn write_along(
     requires { start + length (linked words.now near far used first) ≤ length list.old }
     ensures { (list.new, result) ≡ stored_at (linked words.now near far used first) list.old start }
 {
-    let mut x = first;
+    let nodes = Along {
+        words,
+        near,
+        far,
+        next: first,
+        left: used,
+    };
     let mut at = start;
-    let mut left = used;
-    while 0 < left {
-        if x == 0 {
-            return at;
-        }
+    for x in nodes {
         list[at] = x;
         at += 1;
-        x = link_else(words, x, near, far);
-        left -= 1;
     }
     at
 }
@@ -153,15 +86,15 @@ pub fn write_listed(
     requires { start + length (ordered words.now used order root) ≤ length list.old }
     ensures { (list.new, result) ≡ stored_at (ordered words.now used order root) list.old start }
 {
-    if goes_down(order) {
+    if order.goes_down() {
         return write_below(words, used, order, root, list, start);
     }
-    let first = first_of(words, order, root);
+    let first = order.first_of(words, root);
     write_along(
         words,
         used,
-        near_link(order),
-        far_link(order),
+        order.near_link(),
+        order.far_link(),
         first,
         list,
         start,
@@ -172,48 +105,35 @@ pub fn write_listed(
 pub fn fits(words: &[u32], used: u32, order: Order, root: u32, places: usize) -> bool
     ensures { result ≡ not (ltb places (length (ordered words.now used order root))) }
 {
-    if (used as usize) <= places {
-        return true;
-    }
-    (count_listed(words, used, order, root) as usize) <= places
+    used as usize <= places || count_listed(words, used, order, root) as usize <= places
 }
 
-// A list on ready memory: REMOVED, then ROOM.
-pub fn list_nodes(words: &[u32], used: u32, order: Order, root: u32, list: &mut [u32]) -> Reply
-    ensures { (list.new, result) ≡ listed words.now used order root list.old }
+// A list on ready memory: REMOVED, then ROOM. Written out beside `list_levels` and `list_descendants`: their writers ask for a
+// count and for a stack besides, so one function over a closure is no plainer than two tests and a call.
+pub fn list_nodes(
+    words: &[u32],
+    used: u32,
+    order: Order,
+    root: u32,
+    list: &mut [u32],
+) -> Result<u32, Refusal>
+    ensures { (list.new, reply_of result) ≡ listed words.now used order root list.old }
 {
-    if found(words, used, root) {
-        if fits(words, used, order, root, list.len()) {
-            let result = write_listed(words, used, order, root, list, 0) as u32;
-            return Reply {
-                number: Number::DONE,
-                result,
-            };
-        }
-        return Reply {
-            number: Number::ROOM,
-            result: 0,
-        };
+    if !found(words, used, root) {
+        return Err(Refusal::Removed);
     }
-    Reply {
-        number: Number::REMOVED,
-        result: 0,
+    if !fits(words, used, order, root, list.len()) {
+        return Err(Refusal::Room);
     }
+    Ok(write_listed(words, used, order, root, list, 0) as u32)
 }
 
 // How many nodes there are from a node down, on ready memory.
-pub fn count_nodes(words: &[u32], used: u32, root: u32) -> Reply
-    ensures { result ≡ counted words.now used root }
+pub fn count_nodes(words: &[u32], used: u32, root: u32) -> Result<u32, Refusal>
+    ensures { reply_of result ≡ counted words.now used root }
 {
-    if found(words, used, root) {
-        let result = count_listed(words, used, Order::Descendants, root);
-        return Reply {
-            number: Number::DONE,
-            result,
-        };
+    if !found(words, used, root) {
+        return Err(Refusal::Removed);
     }
-    Reply {
-        number: Number::REMOVED,
-        result: 0,
-    }
+    Ok(count_listed(words, used, Order::Descendants, root))
 }

@@ -5,7 +5,7 @@ ghost use Rattle.lists.specs.OrderLinks.{down_b, near_link, far_link, link_else}
 
 use link::words::{Slot, link_of};
 
-#[derive(Clone, Copy)]
+#[derive(Clone, Copy, Debug, PartialEq, Eq)]
 pub enum Order {
     Ancestors,
     Predecessors,
@@ -16,13 +16,63 @@ pub enum Order {
     Leaves,
 }
 
+impl Order {
+    // Whether an order goes down from the node, in preorder; the others go by links.
+    pub fn goes_down(self) -> bool
+        ensures { result ≡ down_b self }
+    {
+        matches!(self, Order::Descendants | Order::Leaves)
+    }
+
+    // The link that such an order goes by.
+    pub fn near_link(self) -> u32
+        ensures { result ≡ near_link self }
+    {
+        match self {
+            Order::Ancestors => Slot::PARENT,
+            Order::Predecessors | Order::PrecedingSiblings => Slot::PREVIOUS,
+            Order::FollowingSiblings | Order::Children => Slot::NEXT,
+            Order::Descendants | Order::Leaves => Slot::FIRST,
+        }
+    }
+
+    // The link it goes by where that one is none: for predecessors the parent, for the others the same.
+    pub fn far_link(self) -> u32
+        ensures { result ≡ far_link self }
+    {
+        match self {
+            Order::Predecessors => Slot::PARENT,
+            _ => self.near_link(),
+        }
+    }
+
+    // All but children begin with the node itself.
+    pub fn first_of(self, words: &[u32], x: u32) -> u32
+        ensures { result ≡ first_of words.now self x }
+    {
+        match self {
+            Order::Children => link_of(words, x, Slot::FIRST),
+            _ => x,
+        }
+    }
+
+    // Leaves lists nodes without children, the others every node they come to.
+    pub fn keeps(self, words: &[u32], x: u32) -> bool
+        ensures { result ≡ keep_b words.now self x }
+    {
+        match self {
+            Order::Leaves => link_of(words, x, Slot::FIRST) == 0,
+            _ => true,
+        }
+    }
+}
+
 // What comes behind all that is below y: its next sibling, else that of the nearest ancestor that has one, within the root.
 fn after_subtree(words: &[u32], root: u32, y: u32, steps: u32) -> u32
     ensures { result ≡ after_subtree steps words.now root y }
 {
     let mut at = y;
-    let mut left = steps;
-    while 0 < left {
+    for _ in 0..steps {
         if at == root {
             return 0;
         }
@@ -31,7 +81,6 @@ fn after_subtree(words: &[u32], root: u32, y: u32, steps: u32) -> u32
             return next;
         }
         at = link_of(words, at, Slot::PARENT);
-        left -= 1;
     }
     0
 }
@@ -40,10 +89,7 @@ fn after_subtree(words: &[u32], root: u32, y: u32, steps: u32) -> u32
 fn behind(words: &[u32], root: u32, y: u32, steps: u32) -> u32
     ensures { result ≡ after_subtree steps words.now root y }
 {
-    if steps == 0 {
-        return 0;
-    }
-    if y == root {
+    if steps == 0 || y == root {
         return 0;
     }
     let next = link_of(words, y, Slot::NEXT);
@@ -65,51 +111,6 @@ pub fn next_descendant(words: &[u32], used: u32, root: u32, x: u32) -> u32
     behind(words, root, x, used)
 }
 
-// Whether an order goes down from the node, in preorder; the others go by links.
-pub fn goes_down(order: Order) -> bool
-    ensures { result ≡ down_b order }
-{
-    match order {
-        Order::Ancestors => false,
-        Order::Predecessors => false,
-        Order::PrecedingSiblings => false,
-        Order::FollowingSiblings => false,
-        Order::Children => false,
-        Order::Descendants => true,
-        Order::Leaves => true,
-    }
-}
-
-// The link that such an order goes by.
-pub fn near_link(order: Order) -> u32
-    ensures { result ≡ near_link order }
-{
-    match order {
-        Order::Ancestors => Slot::PARENT,
-        Order::Predecessors => Slot::PREVIOUS,
-        Order::PrecedingSiblings => Slot::PREVIOUS,
-        Order::FollowingSiblings => Slot::NEXT,
-        Order::Children => Slot::NEXT,
-        Order::Descendants => Slot::FIRST,
-        Order::Leaves => Slot::FIRST,
-    }
-}
-
-// The link it goes by where that one is none: for predecessors the parent, for the others the same.
-pub fn far_link(order: Order) -> u32
-    ensures { result ≡ far_link order }
-{
-    match order {
-        Order::Ancestors => Slot::PARENT,
-        Order::Predecessors => Slot::PARENT,
-        Order::PrecedingSiblings => Slot::PREVIOUS,
-        Order::FollowingSiblings => Slot::NEXT,
-        Order::Children => Slot::NEXT,
-        Order::Descendants => Slot::FIRST,
-        Order::Leaves => Slot::FIRST,
-    }
-}
-
 // By one link, else by another.
 pub fn link_else(words: &[u32], x: u32, near: u32, far: u32) -> u32
     ensures { result ≡ link_else words.now x near far }
@@ -119,34 +120,4 @@ pub fn link_else(words: &[u32], x: u32, near: u32, far: u32) -> u32
         return by_near;
     }
     link_of(words, x, far)
-}
-
-// All but children begin with the node itself.
-pub fn first_of(words: &[u32], order: Order, x: u32) -> u32
-    ensures { result ≡ first_of words.now order x }
-{
-    match order {
-        Order::Ancestors => x,
-        Order::Predecessors => x,
-        Order::PrecedingSiblings => x,
-        Order::FollowingSiblings => x,
-        Order::Children => link_of(words, x, Slot::FIRST),
-        Order::Descendants => x,
-        Order::Leaves => x,
-    }
-}
-
-// Leaves lists nodes without children, the others every node they come to.
-pub fn keeps(words: &[u32], order: Order, x: u32) -> bool
-    ensures { result ≡ keep_b words.now order x }
-{
-    match order {
-        Order::Ancestors => true,
-        Order::Predecessors => true,
-        Order::PrecedingSiblings => true,
-        Order::FollowingSiblings => true,
-        Order::Children => true,
-        Order::Descendants => true,
-        Order::Leaves => link_of(words, x, Slot::FIRST) == 0,
-    }
 }

@@ -1,8 +1,11 @@
 -- A number and its k bytes determine each other, for every k; what is read and written at a place, one byte at a time.
-use Rattle.std.specs.Prelude.{◌≡◌, refl, List, [], ◌∷◌, ℕ, zero, suc, ◌+◌, ◌*◌, ◌/◌, ◌%◌, ◌^◌, ◌<◌, ◌≤◌, length, get_or, set}
-use Rattle.std.proofs.Common.{ap, ap₂, ◌∙◌, arith, add-one, drop-cons}
+use Rattle.std.specs.Prelude.{◌≡◌, refl, List, [], ◌∷◌, ◌++◌, ℕ, zero, suc, ◌+◌, ◌-◌, ◌*◌, ◌/◌, ◌%◌, ◌^◌, ◌<◌, ◌≤◌, length, get_or, set, take, drop}
+use Rattle.std.specs.Int.{w16, w32, to_le_bytes}
+use borrow.Rule.Slice.PartMut.{put_mid}
+use Rattle.std.proofs.Common.{sym, ap, ap₂, ◌∙◌, append_assoc, arith, add-one, drop-cons, drop-drop}
 use Rattle.std.proofs.Math.Nat.{pow-succ'}
 use Rattle.std.proofs.Math.Seq.{length-sets}
+use Rattle.std.proofs.lemmas.List.Edits.{sets-eq}
 use Rattle.little_endian.specs.Bytes.{bytes_of, number_of, number_at, with_number}
 
 -- each is a byte
@@ -86,6 +89,31 @@ four-stores bytes at x =
     let two : at + 2 ≡ suc (suc at) = omega arith in
     let three : at + 3 ≡ suc (suc (suc at)) = omega arith in
     rw (third, fourth, one, two, three)
+
+-- A part of the bytes replaced by the k bytes of a number,
+pub part-written : (k : ℕ) (bytes : List ℕ) (at x : ℕ) (part : List ℕ) → at + k ≤ length bytes → part ≡ bytes_of k x
+    → put_mid at (at + k - at) bytes part ≡ with_number k bytes at x
+unfolding with_number
+part-written k bytes at x part h e =
+    let size : length (bytes_of k x) ≡ k = length-bytes_of k x in
+    let width : at + k - at ≡ k = omega arith in
+    let behind : drop k (drop at bytes) ≡ drop (at + length (bytes_of k x)) bytes = drop-drop k at bytes ∙ ap (λ (i : ℕ). drop i bytes) (omega arith) in
+    rw (width, e) (ap (λ (t : List ℕ). take at bytes ++ (bytes_of k x ++ t)) behind ∙ sym (append_assoc (take at bytes) (bytes_of k x) (drop (at + length (bytes_of k x)) bytes)) ∙ sym (sets-eq (bytes_of k x) bytes at (omega arith)))
+
+-- which std gives for two and for four,
+pub two-given : (x : ℕ) → to_le_bytes w16 (x % 65536) ≡ bytes_of 2 x
+unfolding bytes_of
+two-given x =
+    let low : x % 65536 % 256 ≡ x % 256 = omega arith in
+    let high : x % 65536 / 256 % 256 ≡ x / 256 % 256 = omega arith in
+    rw (low, high)
+
+pub four-given : (x : ℕ) → to_le_bytes w32 x ≡ bytes_of 4 x
+unfolding bytes_of
+four-given x =
+    let third : x / 65536 ≡ x / 256 / 256 = omega arith in
+    let fourth : x / 16777216 ≡ x / 256 / 256 / 256 = omega arith in
+    rw (third, fourth)
 
 -- and the sums of two and of four.
 pub two-read : (bytes : List ℕ) (at : ℕ) → at + 2 ≤ length bytes → number_at 2 bytes at ≡ get_or bytes at 0 + 256 * get_or bytes (at + 1) 0

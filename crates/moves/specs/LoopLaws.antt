@@ -4,6 +4,8 @@ use Rattle.std.proofs.Math.Bool.{true, false, cond}
 use Prim.Native.Nat.{◌-◌, ℕ, zero, suc, ◌<◌, ◌≤◌}
 use native.Mathlib.Omega.{arith}
 use Rattle.std.proofs.Math.Numerals.{sub-one}
+use Rattle.std.proofs.lemmas.Bool.Decides.{nat_tests}
+use Rattle.std.proofs.Math.Nat.{sub-add-eq}
 use Rattle.link.specs.Words.{PARENT, PREVIOUS, NEXT, link, set_link}
 use Rattle.moves.specs.Detach.{scatter}
 use Rattle.moves.specs.Moves.{on_path_b}
@@ -40,3 +42,8 @@ module _ (n : ℕ) (m : List ℕ) where
           (scatter (k - 1) (set_link (set_link (set_link m child NEXT 0) child PREVIOUS 0) child PARENT 0) (link m child NEXT))
       by zero g = absurd (omega arith)
       by (suc k) g = simp sub-one
+
+-- What the two loops are proved by.
+pub ruleset path_turns = (nat_tests, sub-add-eq, path-out, path-step)
+
+pub ruleset scatter_turns = (nat_tests, sub-add-eq, scatter-out, scatter-step)

@@ -1,25 +1,28 @@
 -- What the calls of a move hand back, put together; and each number answered, by its case.
-use Rattle.std.specs.Prelude.{◌≡◌, refl, true, false, ℕ, ◌+◌}
+use Rattle.std.specs.Prelude.{◌≡◌, refl, true, false, ℕ, ◌+◌, Result}
 use Rattle.std.proofs.Common.{sym, ◌∙◌, eq-eqb, ne_eqb}
 use Rattle.std.proofs.Math.Path.{ap}
+use Rattle.std.specs.Result.{IsErrAnd}
 use mathlib.Core.List.{List}
 use Rattle.link.specs.Siblings.{insert_with_neighbors}
 use Rattle.link.specs.Found.{found_b}
 use Rattle.link.specs.declared.header.Header.{Header}
-use Rattle.link.specs.declared.siblings_range.Placed.{Placed}
-use Rattle.rules.specs.Answers.{DONE, REMOVED, SELF, ANCESTOR, refusal, answer}
+use Rattle.link.specs.declared.siblings_range.ConsistencyError.{ConsistencyError}
+use Rattle.rules.specs.Answers.{DONE, REMOVED, SELF, ANCESTOR, refusal, answer, refusal_no, answer_kept}
+use Rattle.rules.specs.declared.answer.Refusal.{Refusal}
+use Rattle.rules.proofs.AnswerLaws.{refused-not_done, answer-refused}
 use Rattle.moves.specs.Places.{spot}
 use Rattle.moves.specs.Detach.{detach}
 use Rattle.moves.specs.Moves.{ancestor_b, move_no, move_words, move_node}
 use Rattle.moves.specs.declared.place.Place.{Place}
 use Rattle.moves.specs.declared.place.Spot.{Spot}
 
-pub move-made : (place : Place) (n : ℕ) (m : List ℕ) (target moved : ℕ) {m₁ m₂ : List ℕ} {to : Spot} {said : Placed} → m₁ ≡ detach m moved
+pub move-made : (place : Place) (n : ℕ) (m : List ℕ) (target moved : ℕ) {m₁ m₂ : List ℕ} {to : Spot} {said : Result Unit ConsistencyError} → m₁ ≡ detach m moved
     → to ≡ spot place m₁ target → (m₂, said) ≡ insert_with_neighbors n m₁ moved to.parent to.previous to.next
     → m₂ ≡ move_words place n m target moved
 unfolding move_words
 move-made place n m target moved {m₁} {m₂} {to} {said} e f g =
-    ap (λ (p : List ℕ × Placed). p.0) g
+    ap (λ (p : List ℕ × Result Unit ConsistencyError). p.0) g
     ∙ ap (λ (s : Spot). (insert_with_neighbors n m₁ moved s.parent s.previous s.next).0) f
     ∙ ap (λ (w : List ℕ). (insert_with_neighbors n w moved (spot place w target).parent (spot place w target).previous (spot place w target).next).0) e
 
@@ -56,6 +59,12 @@ module _ (m : List ℕ) (h : Header) (target moved : ℕ) where
   unfolding move_node
   moved-refused place e d =
       simp (ne_eqb (move_no m h target moved) DONE (λ (z : move_no m h target moved ≡ DONE). d (e ∙ z))) (ap (λ (x : ℕ). (m, answer h x 0)) e)
+
+  -- At the exit of a `?` on the number, whose refusal e is what the move answers.
+  pub moved-err : (place : Place) (r : Result Unit Refusal) (e : Refusal) → refusal_no e ≡ move_no m h target moved → IsErrAnd r (λ y. y ≡ e)
+      → (m, answer_kept h r) ≡ move_node place m h target moved
+  moved-err place r e n w =
+      ap (λ x. (m, x)) (answer-refused (λ h _. h) (λ _. 0) h r e w) ∙ moved-refused place n (refused-not_done e)
 
 -- P8 of document 01, for each move and every identifier: two equal identifiers are SELF, found or not.
 pub P8 : (place : Place) (m : List ℕ) (h : Header) (id : ℕ) → move_node place m h id id ≡ (m, answer h SELF 0)

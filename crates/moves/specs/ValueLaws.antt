@@ -1,5 +1,6 @@
 -- What the calls of a value form hand back, put together, by the number that the creation answers.
-use Rattle.std.specs.Prelude.{◌≡◌, Bool, cond}
+use Rattle.std.specs.Prelude.{◌≡◌, Bool, cond, Result}
+use Rattle.std.specs.Result.{IsErrAnd}
 use Rattle.std.proofs.Math.Path.{refl, sym, ap}
 use Rattle.std.proofs.Common.{◌∙◌}
 use Rattle.std.proofs.Math.Bool.{true, false}
@@ -9,8 +10,11 @@ use Rattle.std.proofs.Math.Dec.{eqb}
 use borrow.Author.Tests.{eq-eqb, ne_eqb, eqb-true}
 use Rattle.link.specs.Found.{found_b}
 use Rattle.link.specs.declared.header.Header.{Header}
-use Rattle.link.specs.declared.siblings_range.Placed.{Placed}
-use Rattle.rules.specs.Answers.{DONE, REMOVED, refusal, answer}
+use Rattle.link.specs.declared.siblings_range.ConsistencyError.{ConsistencyError}
+use Rattle.rules.specs.Answers.{DONE, REMOVED, refusal, answer, refusal_no, answer_created}
+use Rattle.rules.specs.declared.answer.Refusal.{Refusal}
+use Rattle.rules.specs.declared.answer.Created.{Created}
+use Rattle.rules.proofs.AnswerLaws.{refused-not_done, answer-refused}
 use Rattle.rules.specs.declared.answer.Answer.{Answer}
 use Rattle.arena.specs.Create.{create_no, fresh, reused, new_node}
 use Rattle.moves.specs.Values.{put_new, value_no, value_node}
@@ -43,7 +47,7 @@ module _ (m : List ℕ) (h : Header) (target : ℕ) where
     unfolding value_node value_no refusal
     value-removed e = simp e
 
-    pub value_made : {m₁ m₂ : List ℕ} {made : Answer} {said : Placed} → found_b m h.used target ≡ true → (m₁, made) ≡ new_node m h number
+    pub value_made : {m₁ m₂ : List ℕ} {made : Answer} {said : Result Unit ConsistencyError} → found_b m h.used target ≡ true → (m₁, made) ≡ new_node m h number
         → made.number ≡ DONE → (m₂, said) ≡ put_new place (h.used + 1) m₁ target made.result
         → (m₂, made) ≡ value_node place m h target number
     unfolding value_node
@@ -51,7 +55,7 @@ module _ (m : List ℕ) (h : Header) (target : ℕ) where
         let done : value_no m h target ≡ DONE =
         value_found e ∙ sym (ap (λ (p : List ℕ × Answer). p.1.number) f ∙ new-number m h number) ∙ d in
         simp (eq-eqb (value_no m h target) DONE done)
-        (ap (λ (p : List ℕ × Placed). (p.0, made)) g
+        (ap (λ (p : List ℕ × Result Unit ConsistencyError). (p.0, made)) g
         ∙ ap (λ (p : List ℕ × Answer). ((put_new place (h.used + 1) p.0 target p.1.result).0, p.1)) f)
 
     pub value-full : {m₁ : List ℕ} {made : Answer} → found_b m h.used target ≡ true → (m₁, made) ≡ new_node m h number
@@ -61,3 +65,10 @@ module _ (m : List ℕ) (h : Header) (target : ℕ) where
         let is = ap (λ (p : List ℕ × Answer). p.1.number) f ∙ new-number m h number in
         let n : (create_no m h ≡ DONE → ⊥) = (λ z. d (is ∙ z)) in
         simp (value_found e, ne_eqb (create_no m h) DONE n) (f ∙ new-refused m h number n)
+
+    -- At the exit of a `?` on the creation, whose refusal e is what the value form answers.
+    pub value-err : {m₁ : List ℕ} (r : Result Created Refusal) (e : Refusal) → found_b m h.used target ≡ true → (m₁, answer h (refusal_no e) 0) ≡ new_node m h number
+        → IsErrAnd r (λ y. y ≡ e) → (m₁, answer_created h r) ≡ value_node place m h target number
+    value-err {m₁} r e f g w =
+        ap (λ x. (m₁, x)) (answer-refused (λ _ (made : Created). made.header) (λ (made : Created). made.id) h r e w)
+        ∙ value-full f g (refused-not_done e)

@@ -1,5 +1,7 @@
 // The public calls: FRAME, SCRATCH, INVALID, then the work. Every output is determined on every input.
+// Document 01 names each call, so each stands here by itself, in one line where it differs from another in the place alone.
 ghost use Rattle.std.specs.Prelude.{◌≡◌};
+ghost use Rattle.rules.specs.Answers.{answer_kept, answer_created};
 ghost use Rattle.sound.specs.Guard.{guarded};
 ghost use Rattle.moves.specs.Detach.{detach_node, detach_children_node};
 ghost use Rattle.moves.specs.Moves.{move_node};
@@ -10,7 +12,7 @@ use crate::id::move_node;
 use crate::place::Place;
 use crate::value::value_node;
 use link::header::Header;
-use rules::answer::{Answer, Number};
+use rules::answer::{Created, Refusal};
 use sound::guard;
 
 // A move under its guard, once over where it puts the node.
@@ -21,18 +23,11 @@ fn checked_move(
     place: Place,
     target: u32,
     moved: u32,
-) -> Answer
-    ensures { (words.new, scratch.new, result) ≡ guarded words.old h scratch.old (move_node place words.old h target moved) }
+) -> Result<(), Refusal>
+    ensures { (words.new, scratch.new, answer_kept h result) ≡ guarded words.old h scratch.old (move_node place words.old h target moved) }
 {
-    let number = guard(words, h, scratch);
-    if number == Number::DONE {
-        return move_node(words, h, place, target, moved);
-    }
-    Answer {
-        header: h,
-        number,
-        result: 0,
-    }
+    guard(words, h, scratch)?;
+    move_node(words, h, place, target, moved)
 }
 
 // The moved node with its subtree becomes the last child of the target.
@@ -42,8 +37,8 @@ pub fn checked_append(
     scratch: &mut [u32],
     target: u32,
     moved: u32,
-) -> Answer
-    ensures { (words.new, scratch.new, result) ≡ guarded words.old h scratch.old (move_node Place.Append words.old h target moved) }
+) -> Result<(), Refusal>
+    ensures { (words.new, scratch.new, answer_kept h result) ≡ guarded words.old h scratch.old (move_node Place.Append words.old h target moved) }
 {
     checked_move(words, h, scratch, Place::Append, target, moved)
 }
@@ -55,8 +50,8 @@ pub fn checked_prepend(
     scratch: &mut [u32],
     target: u32,
     moved: u32,
-) -> Answer
-    ensures { (words.new, scratch.new, result) ≡ guarded words.old h scratch.old (move_node Place.Prepend words.old h target moved) }
+) -> Result<(), Refusal>
+    ensures { (words.new, scratch.new, answer_kept h result) ≡ guarded words.old h scratch.old (move_node Place.Prepend words.old h target moved) }
 {
     checked_move(words, h, scratch, Place::Prepend, target, moved)
 }
@@ -68,8 +63,8 @@ pub fn checked_insert_after(
     scratch: &mut [u32],
     target: u32,
     moved: u32,
-) -> Answer
-    ensures { (words.new, scratch.new, result) ≡ guarded words.old h scratch.old (move_node Place.After words.old h target moved) }
+) -> Result<(), Refusal>
+    ensures { (words.new, scratch.new, answer_kept h result) ≡ guarded words.old h scratch.old (move_node Place.After words.old h target moved) }
 {
     checked_move(words, h, scratch, Place::After, target, moved)
 }
@@ -81,8 +76,8 @@ pub fn checked_insert_before(
     scratch: &mut [u32],
     target: u32,
     moved: u32,
-) -> Answer
-    ensures { (words.new, scratch.new, result) ≡ guarded words.old h scratch.old (move_node Place.Before words.old h target moved) }
+) -> Result<(), Refusal>
+    ensures { (words.new, scratch.new, answer_kept h result) ≡ guarded words.old h scratch.old (move_node Place.Before words.old h target moved) }
 {
     checked_move(words, h, scratch, Place::Before, target, moved)
 }
@@ -95,18 +90,11 @@ fn place_value(
     place: Place,
     target: u32,
     value: u32,
-) -> Answer
-    ensures { (words.new, scratch.new, result) ≡ guarded words.old h scratch.old (value_node place words.old h target value) }
+) -> Result<Created, Refusal>
+    ensures { (words.new, scratch.new, answer_created h result) ≡ guarded words.old h scratch.old (value_node place words.old h target value) }
 {
-    let number = guard(words, h, scratch);
-    if number == Number::DONE {
-        return value_node(words, h, place, target, value);
-    }
-    Answer {
-        header: h,
-        number,
-        result: 0,
-    }
+    guard(words, h, scratch)?;
+    value_node(words, h, place, target, value)
 }
 
 // A new node with this number becomes the last child of the target.
@@ -116,8 +104,8 @@ pub fn append_value(
     scratch: &mut [u32],
     target: u32,
     value: u32,
-) -> Answer
-    ensures { (words.new, scratch.new, result) ≡ guarded words.old h scratch.old (value_node Place.Append words.old h target value) }
+) -> Result<Created, Refusal>
+    ensures { (words.new, scratch.new, answer_created h result) ≡ guarded words.old h scratch.old (value_node Place.Append words.old h target value) }
 {
     place_value(words, h, scratch, Place::Append, target, value)
 }
@@ -129,8 +117,8 @@ pub fn prepend_value(
     scratch: &mut [u32],
     target: u32,
     value: u32,
-) -> Answer
-    ensures { (words.new, scratch.new, result) ≡ guarded words.old h scratch.old (value_node Place.Prepend words.old h target value) }
+) -> Result<Created, Refusal>
+    ensures { (words.new, scratch.new, answer_created h result) ≡ guarded words.old h scratch.old (value_node Place.Prepend words.old h target value) }
 {
     place_value(words, h, scratch, Place::Prepend, target, value)
 }
@@ -142,8 +130,8 @@ pub fn insert_after_value(
     scratch: &mut [u32],
     target: u32,
     value: u32,
-) -> Answer
-    ensures { (words.new, scratch.new, result) ≡ guarded words.old h scratch.old (value_node Place.After words.old h target value) }
+) -> Result<Created, Refusal>
+    ensures { (words.new, scratch.new, answer_created h result) ≡ guarded words.old h scratch.old (value_node Place.After words.old h target value) }
 {
     place_value(words, h, scratch, Place::After, target, value)
 }
@@ -155,38 +143,34 @@ pub fn insert_before_value(
     scratch: &mut [u32],
     target: u32,
     value: u32,
-) -> Answer
-    ensures { (words.new, scratch.new, result) ≡ guarded words.old h scratch.old (value_node Place.Before words.old h target value) }
+) -> Result<Created, Refusal>
+    ensures { (words.new, scratch.new, answer_created h result) ≡ guarded words.old h scratch.old (value_node Place.Before words.old h target value) }
 {
     place_value(words, h, scratch, Place::Before, target, value)
 }
 
 // The node with its subtree becomes a chain of one.
-pub fn checked_detach(words: &mut [u32], h: Header, scratch: &mut [u32], id: u32) -> Answer
-    ensures { (words.new, scratch.new, result) ≡ guarded words.old h scratch.old (detach_node words.old h id) }
+pub fn checked_detach(
+    words: &mut [u32],
+    h: Header,
+    scratch: &mut [u32],
+    id: u32,
+) -> Result<(), Refusal>
+    ensures { (words.new, scratch.new, answer_kept h result) ≡ guarded words.old h scratch.old (detach_node words.old h id) }
 {
-    let number = guard(words, h, scratch);
-    if number == Number::DONE {
-        return detach_node(words, h, id);
-    }
-    Answer {
-        header: h,
-        number,
-        result: 0,
-    }
+    guard(words, h, scratch)?;
+    detach_node(words, h, id)
 }
 
 // So does each of its children.
-pub fn checked_detach_children(words: &mut [u32], h: Header, scratch: &mut [u32], id: u32) -> Answer
-    ensures { (words.new, scratch.new, result) ≡ guarded words.old h scratch.old (detach_children_node words.old h id) }
+pub fn checked_detach_children(
+    words: &mut [u32],
+    h: Header,
+    scratch: &mut [u32],
+    id: u32,
+) -> Result<(), Refusal>
+    ensures { (words.new, scratch.new, answer_kept h result) ≡ guarded words.old h scratch.old (detach_children_node words.old h id) }
 {
-    let number = guard(words, h, scratch);
-    if number == Number::DONE {
-        return detach_children_node(words, h, id);
-    }
-    Answer {
-        header: h,
-        number,
-        result: 0,
-    }
+    guard(words, h, scratch)?;
+    detach_children_node(words, h, id)
 }

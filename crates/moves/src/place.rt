@@ -5,7 +5,7 @@ ghost use Rattle.moves.specs.Places.{spot};
 use link::words::{Slot, link_of};
 
 // Last child of a target, its first child, the sibling after it, the sibling before it.
-#[derive(Clone, Copy)]
+#[derive(Clone, Copy, Debug, PartialEq, Eq)]
 pub enum Place {
     Append,
     Prepend,
@@ -14,7 +14,7 @@ pub enum Place {
 }
 
 // Under a parent, between two neighbours; each may be none.
-#[derive(Clone, Copy)]
+#[derive(Clone, Copy, Debug, PartialEq, Eq)]
 pub struct Spot {
     pub parent: u32,
     pub previous: u32,
@@ -22,7 +22,7 @@ pub struct Spot {
 }
 
 impl Place {
-    // By the target's links, as they now stand.
+    // By the target's links, as they stand.
     pub fn spot(self, words: &[u32], target: u32) -> Spot
         ensures { result ≡ spot self words.now target }
     {

@@ -1,5 +1,6 @@
 // The node and all below it as a call on any memory: FRAME, SCRATCH, INVALID, then REMOVED, then ROOM.
 ghost use Rattle.std.specs.Prelude.{◌≡◌, ◌*◌, ◌≤◌, length};
+ghost use Rattle.rules.specs.Answers.{reply_of};
 ghost use Rattle.rules.specs.Sound.{Sound};
 ghost use Rattle.examine.specs.Scratch.{zeroed};
 ghost use Rattle.lists.specs.Listing.{listed, guarded_list};
@@ -10,7 +11,7 @@ use link::header::Header;
 use link::id::found;
 use lists::lists::fits;
 use lists::order::Order;
-use rules::answer::{Number, Reply};
+use rules::answer::Refusal;
 use sound::guard;
 
 // On ready memory: REMOVED, then ROOM. Scratch is zero before and after.
@@ -20,28 +21,17 @@ fn list_descendants(
     scratch: &mut [u32],
     id: u32,
     list: &mut [u32],
-) -> Reply
+) -> Result<u32, Refusal>
     requires { Sound words.now h × (2 * h.used ≤ length scratch.old) × (zeroed (2 * h.used) scratch.old ≡ scratch.old) }
-    ensures { (scratch.new ≡ scratch.old) × ((list.new, result) ≡ listed words.now h.used Descendants id list.old) }
+    ensures { (scratch.new ≡ scratch.old) × ((list.new, reply_of result) ≡ listed words.now h.used Descendants id list.old) }
 {
-    let used = h.used;
-    if found(words, used, id) {
-        if fits(words, used, Order::Descendants, id, list.len()) {
-            let result = write_preorder(words, h, scratch, id, list) as u32;
-            return Reply {
-                number: Number::DONE,
-                result,
-            };
-        }
-        return Reply {
-            number: Number::ROOM,
-            result: 0,
-        };
+    if !found(words, h.used, id) {
+        return Err(Refusal::Removed);
     }
-    Reply {
-        number: Number::REMOVED,
-        result: 0,
+    if !fits(words, h.used, Order::Descendants, id, list.len()) {
+        return Err(Refusal::Room);
     }
+    Ok(write_preorder(words, h, scratch, id, list) as u32)
 }
 
 // The node and all below it, in preorder.
@@ -51,12 +41,9 @@ pub fn descendants(
     scratch: &mut [u32],
     id: u32,
     list: &mut [u32],
-) -> Reply
-    ensures { (scratch.new, list.new, result) ≡ guarded_list words.now h scratch.old list.old (listed words.now h.used Descendants id list.old) }
+) -> Result<u32, Refusal>
+    ensures { (scratch.new, list.new, reply_of result) ≡ guarded_list words.now h scratch.old list.old (listed words.now h.used Descendants id list.old) }
 {
-    let number = guard(words, h, scratch);
-    if number == 0 {
-        return list_descendants(words, h, scratch, id, list);
-    }
-    Reply { number, result: 0 }
+    guard(words, h, scratch)?;
+    list_descendants(words, h, scratch, id, list)
 }

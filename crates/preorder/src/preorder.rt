@@ -9,7 +9,7 @@ ghost use Rattle.lists.specs.Storing.{stored_at};
 ghost use Rattle.lists.specs.declared.order.Order.TheVariants.{Descendants};
 ghost use Rattle.preorder.specs.Stack.{turned};
 
-use link::choice::{choose, pick};
+use link::choice::choose;
 use link::header::Header;
 use link::words::{Slot, link_of};
 
@@ -21,6 +21,7 @@ pub struct Turned {
 }
 
 // What follows a node: its first child, and the next sibling waits on the stack; without a child the next sibling, or what waits there.
+// Scratch and its top are two parameters, as in the definition `turned`: there is no heap, so the stack stands in lent words.
 fn turn(words: &[u32], x: u32, scratch: &mut [u32], top: usize) -> Turned
     requires { (0 < top) × (top < length scratch.old) }
     ensures { (scratch.new, result) ≡ turned words.now x scratch.old top }
@@ -35,9 +36,9 @@ fn turn(words: &[u32], x: u32, scratch: &mut [u32], top: usize) -> Turned
         };
     }
     let waiting = scratch[top];
-    scratch[top] = pick(next == 0, 0, waiting);
+    scratch[top] = choose(next == 0, 0, waiting);
     Turned {
-        node: pick(next == 0, waiting, next),
+        node: choose(next == 0, waiting, next),
         top: choose(next == 0, top + 1, top),
     }
 }
@@ -58,6 +59,7 @@ pub fn write_preorder(
     let mut x = link_of(words, root, Slot::FIRST);
     let mut top = 2 * (used as usize) - 1;
     let mut at: usize = 1;
+    // Not by `for`: the nodes end where a turn leads to none, and a count of turns beside that is one test more for each.
     while x != 0 {
         list[at] = x;
         at += 1;

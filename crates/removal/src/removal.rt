@@ -2,116 +2,87 @@
 // be found, for callers that know already that memory is ready.
 ghost use Rattle.std.specs.Prelude.{◌≡◌, ◌≤◌, length};
 ghost use Rattle.link.specs.Words.{capacity_of};
+ghost use Rattle.rules.specs.Answers.{answer_changed};
 ghost use Rattle.sound.specs.Guard.{guarded};
 ghost use Rattle.removal.specs.Remove.{remove_node, remove_subtree, remove_children};
 
 use crate::id::{remove, remove_descendants, remove_subtree};
 use link::header::Header;
 use link::id::found;
-use rules::answer::{Answer, Number};
+use rules::answer::Refusal;
 use sound::guard;
 
-// The work of `checked_remove`.
-pub fn remove_found(words: &mut [u32], h: Header, id: u32) -> Answer
+// The work of `checked_remove`. The three works are written out: one function over what is done would be longer than the three tests.
+#[tactic(auto, unfolding(crate::specs::Remove::remove_node, crate::specs::Remove::when_found, rules::specs::Answers::refusal))]
+pub fn remove_found(words: &mut [u32], h: Header, id: u32) -> Result<Header, Refusal>
     requires { (h.used ≤ capacity_of (length words.old)) × (h.last ≤ h.used) }
-    ensures { (words.new, result) ≡ remove_node words.old h id }
+    ensures { (words.new, answer_changed h result) ≡ remove_node words.old h id }
 {
-    if found(words, h.used, id) {
-        let header = remove(words, h, id);
-        return Answer {
-            header,
-            number: Number::DONE,
-            result: 0,
-        };
+    if !found(words, h.used, id) {
+        return Err(Refusal::Removed);
     }
-    Answer {
-        header: h,
-        number: Number::REMOVED,
-        result: 0,
-    }
+    Ok(remove(words, h, id))
 }
 
 // The work of `checked_remove_subtree`.
-pub fn remove_subtree_found(words: &mut [u32], h: Header, id: u32) -> Answer
+#[tactic(auto, unfolding(crate::specs::Remove::remove_subtree, crate::specs::Remove::when_found, rules::specs::Answers::refusal))]
+pub fn remove_subtree_found(words: &mut [u32], h: Header, id: u32) -> Result<Header, Refusal>
     requires { (h.used ≤ capacity_of (length words.old)) × (h.last ≤ h.used) }
-    ensures { (words.new, result) ≡ remove_subtree words.old h id }
+    ensures { (words.new, answer_changed h result) ≡ remove_subtree words.old h id }
 {
-    if found(words, h.used, id) {
-        let header = remove_subtree(words, h, id);
-        return Answer {
-            header,
-            number: Number::DONE,
-            result: 0,
-        };
+    if !found(words, h.used, id) {
+        return Err(Refusal::Removed);
     }
-    Answer {
-        header: h,
-        number: Number::REMOVED,
-        result: 0,
-    }
+    Ok(remove_subtree(words, h, id))
 }
 
 // The work of `remove_children`.
-pub fn remove_children_found(words: &mut [u32], h: Header, id: u32) -> Answer
+#[tactic(auto, unfolding(crate::specs::Remove::remove_children, crate::specs::Remove::when_found, rules::specs::Answers::refusal))]
+pub fn remove_children_found(words: &mut [u32], h: Header, id: u32) -> Result<Header, Refusal>
     requires { (h.used ≤ capacity_of (length words.old)) × (h.last ≤ h.used) }
-    ensures { (words.new, result) ≡ remove_children words.old h id }
+    ensures { (words.new, answer_changed h result) ≡ remove_children words.old h id }
 {
-    if found(words, h.used, id) {
-        let header = remove_descendants(words, h, id);
-        return Answer {
-            header,
-            number: Number::DONE,
-            result: 0,
-        };
+    if !found(words, h.used, id) {
+        return Err(Refusal::Removed);
     }
-    Answer {
-        header: h,
-        number: Number::REMOVED,
-        result: 0,
-    }
+    Ok(remove_descendants(words, h, id))
 }
 
 // The children, in order, take the node's place between its neighbours under its parent; those of a parentless node stay together.
-pub fn checked_remove(words: &mut [u32], h: Header, scratch: &mut [u32], id: u32) -> Answer
-    ensures { (words.new, scratch.new, result) ≡ guarded words.old h scratch.old (remove_node words.old h id) }
+pub fn checked_remove(
+    words: &mut [u32],
+    h: Header,
+    scratch: &mut [u32],
+    id: u32,
+) -> Result<Header, Refusal>
+    ensures { (words.new, scratch.new, answer_changed h result) ≡ guarded words.old h scratch.old (remove_node words.old h id) }
 {
-    let number = guard(words, h, scratch);
-    if number == Number::DONE {
-        return remove_found(words, h, id);
-    }
-    Answer {
-        header: h,
-        number,
-        result: 0,
-    }
+    guard(words, h, scratch)?;
+    remove_found(words, h, id)
 }
 
 // The subtree is freed children first, left to right, the named node last.
-pub fn checked_remove_subtree(words: &mut [u32], h: Header, scratch: &mut [u32], id: u32) -> Answer
-    ensures { (words.new, scratch.new, result) ≡ guarded words.old h scratch.old (remove_subtree words.old h id) }
+pub fn checked_remove_subtree(
+    words: &mut [u32],
+    h: Header,
+    scratch: &mut [u32],
+    id: u32,
+) -> Result<Header, Refusal>
+    ensures { (words.new, scratch.new, answer_changed h result) ≡ guarded words.old h scratch.old (remove_subtree words.old h id) }
 {
-    let number = guard(words, h, scratch);
-    if number == Number::DONE {
-        return remove_subtree_found(words, h, id);
-    }
-    Answer {
-        header: h,
-        number,
-        result: 0,
-    }
+    guard(words, h, scratch)?;
+    remove_subtree_found(words, h, id)
 }
 
 // The same without the node.
-pub fn remove_children(words: &mut [u32], h: Header, scratch: &mut [u32], id: u32) -> Answer
-    ensures { (words.new, scratch.new, result) ≡ guarded words.old h scratch.old (remove_children words.old h id) }
+pub fn remove_children(
+    words: &mut [u32],
+    h: Header,
+    scratch: &mut [u32],
+    id: u32,
+) -> Result<Header, Refusal>
+    ensures { (words.new, scratch.new, answer_changed h result) ≡ guarded words.old h scratch.old (remove_children words.old h id) }
 {
-    let number = guard(words, h, scratch);
-    if number == Number::DONE {
-        return remove_children_found(words, h, id);
-    }
-    Answer {
-        header: h,
-        number,
-        result: 0,
-    }
+    guard(words, h, scratch)?;
+    remove_children_found(words, h, id)
 }

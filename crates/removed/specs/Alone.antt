@@ -1,12 +1,12 @@
 -- A found node of ready memory taken out of its chain, as the models do it: the words are those of the detached node, memory is
 -- ready, and the free chain is the same.
-use Rattle.std.specs.Prelude.{◌≡◌, List, ℕ, ◌*◌, ◌≤◌, length}
+use Rattle.std.specs.Prelude.{◌≡◌, List, ℕ, ◌*◌, ◌≤◌, length, Result}
 use Rattle.std.proofs.Common.{ap, arith}
 use Rattle.link.specs.Words.{width, PARENT}
 use Rattle.link.specs.Found.{Found}
 use Rattle.link.proofs.OnlyLaws.{only-link, only_then, only-detach}
 use Rattle.link.specs.declared.header.Header.{Header}
-use Rattle.link.specs.declared.siblings_range.Placed.{Placed}
+use Rattle.link.specs.declared.siblings_range.ConsistencyError.{ConsistencyError}
 use Rattle.rules.specs.Links.{view}
 use Rattle.rules.specs.Sound.{Ready}
 use Rattle.forest.specs.View.{detach}
@@ -25,7 +25,7 @@ pub detached-words : (m : List ℕ) (h : Header) → h.used * width ≤ length m
 unfolding model.detached
 detached-words m h room R x f =
     let a = f.from in let b = f.upto in
-    ap (λ (p : List ℕ × Placed). p.0) (detach_rewrites m h room R.sound x f (steps_for h.used) (omega arith))
+    ap (λ (p : List ℕ × Result Unit ConsistencyError). p.0) (detach_rewrites m h room R.sound x f (steps_for h.used) (omega arith))
 
 pub detach-length : (m : List ℕ) (x : ℕ) → length (detach_words m x) ≡ length m
 unfolding detach_words

@@ -1,7 +1,10 @@
 -- The numbers answered, by document 01's names, and its order of tests, written once for all calls.
 -- Excluded: REMOVED answered where two equal identifiers are given to a move; FULL before REMOVED in a value form.
-use Rattle.std.specs.Prelude.{Bool, cond, ℕ}
+use Rattle.std.specs.Prelude.{Bool, cond, ℕ, Result, Ok, Err}
 use Rattle.link.specs.declared.header.Header.{Header}
+use Rattle.rules.specs.declared.answer.Refusal.{Refusal}
+use Rattle.rules.specs.declared.answer.Refusal.TheVariants as Is
+use Rattle.rules.specs.declared.answer.Created.{Created}
 use Rattle.rules.specs.declared.answer.Reply.{Reply}
 use Rattle.rules.specs.declared.answer.Answer.{Answer}
 
@@ -83,3 +86,54 @@ answer h n r = record { header = h; number = n; result = r }
 
 abbrev pub header : ℕ → ℕ → ℕ → Header
 header used first last = record { used = used; first = first; last = last }
+
+-- The number of each refusal.
+abbrev pub refusal_no : Refusal → ℕ
+refusal_no Is.Frame = FRAME
+refusal_no Is.Scratch = SCRATCH
+refusal_no Is.Invalid = INVALID
+refusal_no Is.Removed = REMOVED
+refusal_no Is.SelfMove = SELF
+refusal_no Is.Ancestor = ANCESTOR
+refusal_no Is.Full = FULL
+refusal_no Is.Room = ROOM
+refusal_no Is.Command = COMMAND
+refusal_no Is.Part = PART
+refusal_no Is.Mark = MARK
+refusal_no Is.Version = VERSION
+refusal_no Is.Length = LENGTH
+
+-- What is handed back, in numbers: DONE with what the value counts as, or the refusal's number with 0.
+abbrev pub reply_by : {A : Type 0} → (A → ℕ) → Result A Refusal → Reply
+reply_by value (Ok x) = reply DONE (value x)
+reply_by value (Err refused) = reply (refusal_no refused) 0
+
+-- A number; nothing but done; yes or no.
+abbrev pub reply_of : Result ℕ Refusal → Reply
+reply_of = reply_by (λ n. n)
+
+abbrev pub reply_done : Result Unit Refusal → Reply
+reply_done = reply_by (λ _. 0)
+
+abbrev pub reply_yes : Result Bool Refusal → Reply
+reply_yes = reply_by (λ b. cond b 1 0)
+
+-- The number alone, where there is no result.
+abbrev pub number_in : Result Unit Refusal → ℕ
+number_in (Ok _) = DONE
+number_in (Err refused) = refusal_no refused
+
+-- The same with the header: what is done leaves one, of the one that came in; a refusal leaves that one.
+abbrev pub answer_by : {A : Type 0} → (Header → A → Header) → (A → ℕ) → Header → Result A Refusal → Answer
+answer_by after value h (Ok x) = answer (after h x) DONE (value x)
+answer_by after value h (Err refused) = answer h (refusal_no refused) 0
+
+-- A change that keeps the header; one that answers the header after it; a creation, which answers the identifier too.
+abbrev pub answer_kept : Header → Result Unit Refusal → Answer
+answer_kept = answer_by (λ h _. h) (λ _. 0)
+
+abbrev pub answer_changed : Header → Result Header Refusal → Answer
+answer_changed = answer_by (λ _ after. after) (λ _. 0)
+
+abbrev pub answer_created : Header → Result Created Refusal → Answer
+answer_created = answer_by (λ _ (c : Created). c.header) (λ (c : Created). c.id)

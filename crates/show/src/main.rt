@@ -8,42 +8,35 @@ use link::relations::insert_last_unchecked;
 use link::words::{Slot, link_of, set_link};
 use std::io;
 
-fn number(rt: &HostRuntime, n: u32) -> io::Result<()> {
-    print!(rt; " {n}")
-}
-
 // The seven words of the slot that an identifier names.
 fn slot(rt: &HostRuntime, words: &[u32], id: u32) -> io::Result<()> {
-    number(rt, link_of(words, id, Slot::STAMP))?;
-    number(rt, link_of(words, id, Slot::NUMBER))?;
-    number(rt, link_of(words, id, Slot::PARENT))?;
-    number(rt, link_of(words, id, Slot::PREVIOUS))?;
-    number(rt, link_of(words, id, Slot::NEXT))?;
-    number(rt, link_of(words, id, Slot::FIRST))?;
-    number(rt, link_of(words, id, Slot::LAST))?;
+    for k in 0..Slot::WORDS as u32 {
+        print!(rt; " {}", link_of(words, id, k))?;
+    }
     println!(rt)
 }
 
 fn answer(rt: &HostRuntime, yes: bool) -> io::Result<()> {
-    if yes {
-        println!(rt; " yes")
-    } else {
-        println!(rt; " no")
-    }
+    println!(rt; " {}", if yes { "yes" } else { "no" })
 }
 
 // The 16 bits of a stamp when handed out, once removed, and when the slot is handed out again.
 fn stamps(rt: &HostRuntime) -> io::Result<()> {
-    print!(rt; "stamp, removed, reused:")?;
-    let handed_out = Stamp::fresh();
-    let removed = Stamp(-1);
-    number(rt, handed_out.bits())?;
-    number(rt, handed_out.removed().bits())?;
-    number(rt, removed.reuse().bits())?;
-    print!(rt; "\nthe last stamp, removed, is spent:")?;
+    let handed_out = Stamp::fresh().bits();
+    let removed = Stamp::fresh().removed().bits();
+    let reused = Stamp(-1).reuse().bits();
+    println!(rt; "stamp, removed, reused: {handed_out} {removed} {reused}")?;
     let spent = Stamp(Stamp::LAST).removed();
-    number(rt, spent.bits())?;
+    print!(rt; "the last stamp, removed, is spent: {}", spent.bits())?;
     answer(rt, spent.is_spent())
+}
+
+// A node, put under another behind its children.
+fn put_under(rt: &HostRuntime, words: &mut [u32], node: u32, parent: u32) -> io::Result<()> {
+    match insert_last_unchecked(words, node, parent, 4) {
+        Ok(()) => Ok(()),
+        Err(error) => println!(rt; "{error:?}"),
+    }
 }
 
 fn main(rt: HostRuntime) -> io::Result<()> {
@@ -52,11 +45,11 @@ fn main(rt: HostRuntime) -> io::Result<()> {
     let car = id_of(1, 0);
     let first = id_of(2, 0);
     let second = id_of(3, 0);
-    set_link(&mut words, car, Slot::NUMBER, 10);
-    set_link(&mut words, first, Slot::NUMBER, 20);
-    set_link(&mut words, second, Slot::NUMBER, 30);
-    insert_last_unchecked(&mut words, first, car, 4);
-    insert_last_unchecked(&mut words, second, car, 4);
+    for (id, stored) in [(car, 10), (first, 20), (second, 30)] {
+        set_link(&mut words, id, Slot::NUMBER, stored);
+    }
+    put_under(&rt, &mut words, first, car)?;
+    put_under(&rt, &mut words, second, car)?;
     print!(rt; "car:")?;
     slot(&rt, &words, car)?;
     print!(rt; "first call:")?;

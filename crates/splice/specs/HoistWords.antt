@@ -1,6 +1,6 @@
 -- The children of a node put to where it stood, on words: naming them their parent changes only parents, taking them out changes no
 -- other node's ends, so they are tied in as the definition of `removal` joins them.
-use Rattle.std.specs.Prelude.{Bool, true, false, cond, ◌≢◌, ◌≡◌, ℕ, zero, suc, ◌<◌, ◌≤◌, eqb, length}
+use Rattle.std.specs.Prelude.{Bool, true, false, cond, ◌≢◌, ◌≡◌, ℕ, zero, suc, ◌<◌, ◌≤◌, eqb, length, Result, Ok, Err}
 use Rattle.std.proofs.Math.Path.{refl}
 use Rattle.std.proofs.Common.{sym, ◌∙◌, subst, arith}
 use mathlib.Core.List.{List}
@@ -12,8 +12,8 @@ use Rattle.link.specs.WordLaws.{link-other, set_link_none}
 use Rattle.link.proofs.OnlyLaws.{only_rewrite, only-detach}
 use Rattle.link.specs.Relations.{first_after, last_after, connect_neighbors}
 use Rattle.link.specs.Siblings.{detach_range, rewrite_parents, joined, transplanted}
-use Rattle.link.specs.declared.siblings_range.Placed.{Placed}
-use Rattle.link.specs.declared.siblings_range.Placed.TheVariants.{Done, SiblingsLoop, ParentChildLoop, OutOfSteps}
+use Rattle.link.specs.declared.siblings_range.ConsistencyError.{ConsistencyError}
+use Rattle.link.specs.declared.siblings_range.ConsistencyError.TheVariants.{ParentChildLoop}
 use Rattle.removal.specs.Remove as model
 use Rattle.splice.specs.Splice.{Within}
 use Rattle.splice.specs.Hoist.{childless, tied, hoisted_in}
@@ -31,7 +31,7 @@ rewrite-link (suc steps) m child parent y j a n =
     told = set_link m child PARENT parent
 
     by : (b c : Bool) → link (rewrite_parents steps told (link told child NEXT) parent).0 y j ≡ link told y j
-        → link (cond b (m, Done) (cond c (m, ParentChildLoop) (rewrite_parents steps told (link told child NEXT) parent))).0 y j ≡ link m y j
+        → link (cond b (m, Ok tt) (cond c (m, Err ParentChildLoop) (rewrite_parents steps told (link told child NEXT) parent))).0 y j ≡ link m y j
     by true c ih = refl
     by false true ih = refl
     by false false ih = ih ∙ link-other m child PARENT parent y j (omega arith) a n
@@ -63,7 +63,7 @@ range-out m x first last e a b = rw (as_is m first PREVIOUS 0 (sym a), as_is m l
 module _ (steps : ℕ) (m : List ℕ) (x first last o p n : ℕ) (leave : first ≢ 0 → detach_range m first last ≡ childless m x) (within : o ≢ 0 → Within m o) (f : HasEnd m o p FIRST) (g : HasEnd m o n LAST)
     (some-last : first ≢ 0 → last ≢ 0) (far : first ≢ 0 → o ≢ 0 → slot_of o ≡ slot_of (link m first PARENT) → ⊥)
     (apart : first ≢ 0 → n ≢ 0 → slot_of n ≡ slot_of first → ⊥) where
-  abbrev told : List ℕ × Placed
+  abbrev told : List ℕ × Result Unit ConsistencyError
   told = rewrite_parents steps (detach_range m first last) first o
 
   module _ (some : first ≢ 0) where
@@ -75,16 +75,14 @@ module _ (steps : ℕ) (m : List ℕ) (x first last o p n : ℕ) (leave : first 
         rewrite-link steps (detach_range m first last) first o o e (omega arith) (λ (q : e ≡ PARENT). omega arith)
         ∙ range-end m first last o e a b (far some oz)
 
-    tied-joined : (s : Placed) → tied s told.0 first last o p n ≡ joined s told.0 first last o p n
-    tied-joined Done =
+    tied-joined : (s : Result Unit ConsistencyError) → tied s told.0 first last o p n ≡ joined s told.0 first last o p n
+    tied-joined (Ok _) =
         tied-words told.0 first last o p n some (some-last some)
         (λ oz. let (a, b) = within oz in (a, rw size b))
         (λ pz oz z. f pz oz (sym (told-end FIRST (omega arith) (omega arith) oz) ∙ z))
         (λ nz oz z. g nz oz (sym (told-end LAST (omega arith) (omega arith) oz) ∙ z))
         (apart some)
-    tied-joined SiblingsLoop = refl
-    tied-joined ParentChildLoop = refl
-    tied-joined OutOfSteps = refl
+    tied-joined (Err _) = refl
 
   pub hoist-words : hoisted_in steps m x first last o p n ≡ model.hoisted steps m first last o p n
   unfolding hoisted_in model.hoisted transplanted

@@ -1,12 +1,12 @@
 -- A node of sound memory that stands alone goes where a target has it, once over the place: what the target's links then name are
 -- other nodes, none or found, and the few writes of this crate are those of the node put there.
-use Rattle.std.specs.Prelude.{◌≡◌, refl, ◌≢◌, List, ℕ, ◌*◌, ◌≤◌, length}
+use Rattle.std.specs.Prelude.{◌≡◌, refl, ◌≢◌, List, ℕ, ◌*◌, ◌≤◌, length, Result}
 use Rattle.std.proofs.Common.{sym, ap, ◌∙◌, inl, inr}
 use Rattle.link.specs.Words.{width, PARENT, PREVIOUS, NEXT, FIRST, LAST, link}
 use Rattle.link.specs.Siblings.{insert_with_neighbors}
 use Rattle.link.specs.Found.{Found}
 use Rattle.link.specs.declared.header.Header.{Header}
-use Rattle.link.specs.declared.siblings_range.Placed.{Placed}
+use Rattle.link.specs.declared.siblings_range.ConsistencyError.{ConsistencyError}
 use Rattle.rules.specs.Links.{par, prv, nxt, fst, lst}
 use Rattle.rules.specs.Sound.{Sound}
 use Rattle.forest.specs.Found.{found_some}
@@ -114,12 +114,12 @@ module _ (m : List ℕ) (h : Header) (t x : ℕ) (A : Lone m h t x) where
       → (insert_with_neighbors n m x (spot place m t).parent (spot place m t).previous (spot place m t).next).0 ≡ words place
   inserts place n l =
       let L = landing place in
-      ap (λ (p : List ℕ × Placed). p.0)
+      ap (λ (p : List ℕ × Result Unit ConsistencyError). p.0)
       (insert-alone n m x (spot place m t).parent (spot place m t).previous (spot place m t).next l some
       L.left_other L.right-other L.under-other A.no-parent A.no-previous A.no-next)
 
   pub puts-new : (place : Place) (n : ℕ) → 2 ≤ n → (put_new place n m t x).0 ≡ words place
-  puts-new Append n l = ap (λ (p : List ℕ × Placed). p.0) (last-alone n m x t l some (λ e. A.other (sym e)) A.no-next)
-  puts-new Prepend n l = ap (λ (p : List ℕ × Placed). p.0) (first_alone n m x t l some (λ e. A.other (sym e)) A.no-next)
+  puts-new Append n l = ap (λ (p : List ℕ × Result Unit ConsistencyError). p.0) (last-alone n m x t l some (λ e. A.other (sym e)) A.no-next)
+  puts-new Prepend n l = ap (λ (p : List ℕ × Result Unit ConsistencyError). p.0) (first_alone n m x t l some (λ e. A.other (sym e)) A.no-next)
   puts-new After n l = inserts After n l
   puts-new Before n l = inserts Before n l

@@ -3,6 +3,7 @@
 use Rattle.std.specs.Prelude.{Bool, true, false, cond, ◌⊎◌, ◌≡◌, List, ℕ, ◌*◌, ◌<◌, ◌≤◌, eqb, length}
 use Rattle.link.specs.Ids.{slot_of}
 use Rattle.link.specs.Words.{width, PARENT, PREVIOUS, NEXT, FIRST, LAST, link, set_link}
+use Rattle.moves.specs.declared.place.Spot.{Spot}
 use Rattle.moves.specs.declared.place.Place.{Place}
 use Rattle.moves.specs.declared.place.Place.TheVariants.{Append, Prepend, After, Before}
 
@@ -12,6 +13,10 @@ Within m id = (0 < slot_of id) × (slot_of id * width ≤ length m)
 
 abbrev pub NoneOrWithin : List ℕ → ℕ → Type 0
 NoneOrWithin m id = (id ≡ 0) ⊎ Within m id
+
+-- So are the parent and the neighbours of a place.
+abbrev pub PlaceWithin : List ℕ → Spot → Type 0
+PlaceWithin m to = NoneOrWithin m to.parent × NoneOrWithin m to.previous × NoneOrWithin m to.next
 
 -- v at the word that leads to a place from one side: `along` of the neighbour, else `end` of the parent. Where there is neither
 -- nothing leads there, and `along` of a spare node is written, which its own write mends.

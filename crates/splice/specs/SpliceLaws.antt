@@ -7,9 +7,10 @@ use Rattle.link.specs.Ids.{slot_of}
 use Rattle.link.specs.Words.{width, PARENT, PREVIOUS, NEXT, FIRST, LAST, place, word, set_word, link, set_link}
 use Rattle.link.specs.WordLaws.{link-some, set_link-some, length-set_link}
 use Rattle.moves.specs.Places.{between, spot}
+use Rattle.moves.specs.declared.place.Spot.{Spot}
 use Rattle.moves.specs.declared.place.Place.{Place}
 use Rattle.moves.specs.declared.place.Place.TheVariants.{Append, Prepend, After, Before}
-use Rattle.splice.specs.Splice.{Within, NoneOrWithin, led, taken_out, tied_in, put_in, beside_word, is_under, is_behind}
+use Rattle.splice.specs.Splice.{Within, NoneOrWithin, PlaceWithin, led, taken_out, tied_in, put_in, beside_word, is_under, is_behind}
 
 -- Within, said of the memory's length: what holds of one length holds of the same.
 
@@ -21,6 +22,9 @@ within-stays id e w = (w.0, rw e w.1)
 
 pub none-or-within-stays : (id : ℕ) {n n' : ℕ} → n' ≡ n → (id ≡ 0) ⊎ Upto n id → (id ≡ 0) ⊎ Upto n' id
 none-or-within-stays id e w = rw e w
+
+pub place-within-stays : (m m' : List ℕ) (to : Spot) → length m' ≡ length m → PlaceWithin m to → PlaceWithin m' to
+place-within-stays m m' to e w = (none-or-within-stays to.parent e w.0, none-or-within-stays to.previous e w.1, none-or-within-stays to.next e w.2)
 
 -- The word that leads to a place.
 

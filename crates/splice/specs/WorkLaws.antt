@@ -12,7 +12,7 @@ use Rattle.rules.specs.Links.{par, prv, nxt}
 use Rattle.rules.specs.Sound.{Ready}
 use Rattle.arena.specs.Create.{new_node}
 use Rattle.moves.specs.Moves.{move_no, move_words}
-use Rattle.moves.specs.Places.{spot}
+use Rattle.moves.specs.Places.{between, spot}
 use Rattle.moves.specs.Values.{put_new}
 use Rattle.moves.specs.declared.place.Place.{Place}
 use Rattle.moves.specs.declared.place.Spot.{Spot}
@@ -20,7 +20,7 @@ use Rattle.removal.specs.Remove.{steps_for, hoisted}
 use Rattle.removal.specs.Freeable.{Freeable}
 use Rattle.removal.specs.FreeableLaws.{last-used}
 use Rattle.removal.specs.RemoveLaws.{found_freeable}
-use Rattle.splice.specs.Splice.{Within, NoneOrWithin, taken_out, put_in}
+use Rattle.splice.specs.Splice.{Within, NoneOrWithin, PlaceWithin, taken_out, put_in}
 use Rattle.splice.specs.Hoist.{Ends, hoisted_in}
 use Rattle.splice.specs.SpliceLaws.{link-read, slot-within}
 use Rattle.splice.specs.ReadyLaws.{
@@ -46,10 +46,10 @@ use Rattle.splice.specs.ReadyLaws.{
 
 -- A node and the place that it is put to are within the memory.
 abbrev Puttable : List ℕ → ℕ → Spot → Type 0
-Puttable m x to = Within m x × NoneOrWithin m to.parent × NoneOrWithin m to.previous × NoneOrWithin m to.next
+Puttable m x to = Within m x × PlaceWithin m to
 
 puttable : (m : List ℕ) (place : Place) (t x : ℕ) {to : Spot} → to ≡ spot place m t → Within m x → SpotWithin m place t → Puttable m x to
-puttable m place t x e w s = subst (λ (to : Spot). Puttable m x to) (sym e) (w, s.parent, s.previous, s.next)
+puttable m place t x e w s = subst (λ (to : Spot). Puttable m x to) (sym e) (w, (s.parent, s.previous, s.next))
 
 -- The five links of a node, read by its slot.
 pub record LinksRead (m : List ℕ) (x parent previous next first last : ℕ) : Type 0 where
@@ -92,7 +92,7 @@ module _ (m : List ℕ) (h : Header) (fits : h.used ≤ capacity_of (length m)) 
         )
 
     module _ {to : Spot} (e : to ≡ spot place m₁ t) where
-      pub move-put-asks : Within m₁ x × NoneOrWithin m₁ to.parent × NoneOrWithin m₁ to.previous × NoneOrWithin m₁ to.next
+      pub move-put-asks : Within m₁ x × PlaceWithin m₁ to
       move-put-asks =
           puttable m₁ place t x e (subst (λ (w : List ℕ). Within w x) (sym out) (moved-node m h fits R t x done place))
           (subst (λ (w : List ℕ). SpotWithin w place t) (sym out) (moved-spot m h fits R t x done place))
@@ -116,7 +116,7 @@ module _ (m : List ℕ) (h : Header) (fits : h.used ≤ capacity_of (length m)) 
         )
 
     module _ {to : Spot} (e : to ≡ spot place m₁ t) where
-      pub value-put-asks : Within m₁ made.result × NoneOrWithin m₁ to.parent × NoneOrWithin m₁ to.previous × NoneOrWithin m₁ to.next
+      pub value-put-asks : Within m₁ made.result × PlaceWithin m₁ to
       value-put-asks =
           puttable m₁ place t made.result e
           (subst (λ (p : List ℕ × Answer). Within p.0 p.1.result) (sym new) (new_node_lem m h fits R t number f done place))
@@ -133,9 +133,9 @@ module _ (m : List ℕ) (h : Header) (fits : h.used ≤ capacity_of (length m)) 
   -- The children of a node that is taken out, by the links read before.
   module _ (x : ℕ) (f : Found m h.used x) {m₁ : List ℕ} {parent previous next first last : ℕ} (out : m₁ ≡ taken_out m x)
       (L : LinksRead m x parent previous next first last) where
-    pub hoist-asks : Within m₁ x × Ends m₁ first last × NoneOrWithin m₁ parent × NoneOrWithin m₁ previous × NoneOrWithin m₁ next
+    pub hoist-asks : Within m₁ x × Ends m₁ first last × PlaceWithin m₁ (between parent previous next)
     hoist-asks =
-        rw (out, L.up, L.left, L.right, L.start, L.end) (hoist-node m h fits R x f, hoist-ends m h fits R x f, hoist-around m h fits R x f par, hoist-around m h fits R x f prv, hoist-around m h fits R x f nxt)
+        rw (out, L.up, L.left, L.right, L.start, L.end) (hoist-node m h fits R x f, hoist-ends m h fits R x f, (hoist-around m h fits R x f par, hoist-around m h fits R x f prv, hoist-around m h fits R x f nxt))
 
     pub hoisted_by : {m₂ : List ℕ} → m₂ ≡ hoisted_in (steps_for h.used) m₁ x first last parent previous next
         → m₂ ≡ hoisted (steps_for h.used) m₁ first last parent previous next

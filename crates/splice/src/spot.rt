@@ -4,7 +4,7 @@ ghost use Rattle.link.specs.Words.{PARENT, link};
 ghost use Rattle.moves.specs.Places.{spot};
 ghost use Rattle.splice.specs.Splice.{Within, beside_word, is_under, is_behind};
 
-use link::choice::pick;
+use link::choice::choose;
 use link::id::slot_of;
 use link::words::{Slot, get_word};
 use moves::place::{Place, Spot};
@@ -25,24 +25,14 @@ fn beside_word(place: Place) -> u32
 fn is_under(place: Place) -> bool
     ensures { result ≡ is_under place }
 {
-    match place {
-        Place::Append => true,
-        Place::Prepend => true,
-        Place::After => false,
-        Place::Before => false,
-    }
+    matches!(place, Place::Append | Place::Prepend)
 }
 
 // Whether that neighbour comes before the node.
 fn is_behind(place: Place) -> bool
     ensures { result ≡ is_behind place }
 {
-    match place {
-        Place::Append => true,
-        Place::Prepend => false,
-        Place::After => false,
-        Place::Before => true,
-    }
+    matches!(place, Place::Append | Place::Before)
 }
 
 // Above is the target's parent.
@@ -53,10 +43,10 @@ pub fn spot(words: &[u32], place: Place, target: u32, above: u32) -> Spot
     let beside = get_word(words, slot_of(target), beside_word(place));
     let under = is_under(place);
     let behind = is_behind(place);
-    let other = pick(under, 0, target);
+    let other = choose(under, 0, target);
     Spot {
-        parent: pick(under, target, above),
-        previous: pick(behind, beside, other),
-        next: pick(behind, other, beside),
+        parent: choose(under, target, above),
+        previous: choose(behind, beside, other),
+        next: choose(behind, other, beside),
     }
 }

@@ -1,17 +1,20 @@
 -- Two walks compared, one step at a time; and the whole call put together from its parts.
 -- From the definitions alone.
-use Rattle.std.specs.Prelude.{◌≡◌, Bool, length}
-use Rattle.std.proofs.Common.{sym, ◌∙◌, sub-one}
+use Rattle.std.specs.Prelude.{◌≡◌, Bool, length, Result}
+use Rattle.std.specs.Result.{IsErrAnd}
+use Rattle.std.proofs.Common.{sym, ◌∙◌}
 use Rattle.std.proofs.Math.Path.{ap}
 use Rattle.std.proofs.Math.Bool.{true, false, cond}
 use mathlib.Core.List.{List}
-use Prim.Native.Nat.{◌-◌, ℕ, zero, suc, ◌+◌, ◌*◌, ◌<◌, ◌≤◌}
+use Prim.Native.Nat.{ℕ, suc, ◌+◌, ◌*◌, ◌≤◌}
 use native.Mathlib.Omega.{arith}
 use borrow.Author.Tests.{eq-eqb, ne_eqb}
 use Rattle.link.specs.Found.{found_b}
 use Rattle.link.specs.declared.header.Header.{Header}
-use Rattle.rules.specs.Answers.{DONE, REMOVED, refusal, reply}
+use Rattle.rules.specs.Answers.{DONE, REMOVED, refusal, reply, refusal_no, reply_by}
+use Rattle.rules.specs.declared.answer.Refusal.{Refusal}
 use Rattle.rules.specs.declared.answer.Reply.{Reply}
+use Rattle.rules.proofs.AnswerLaws.{refused-not_done, reply-refused}
 use Rattle.sound.specs.Guard.{scratch_after, guard_no, guarded_read}
 use Rattle.walk.specs.declared.edge.Edge.{Edge}
 use Rattle.walk.specs.declared.edge.Edge.TheVariants.{Start}
@@ -23,14 +26,10 @@ module _ (n : ℕ) (m : List ℕ) (x : ℕ) (e : Edge) (m' : List ℕ) (y : ℕ)
   unfolding compare_run
   compare-out h = let z : n ≡ 0 = omega arith in rw z
 
-  pub compare-step : {s : Together} → 0 < n → s ≡ compare_step m x e m' y f
-      → compare_run n m x e m' y f ≡ by_together (λ g k. compare_run (n - 1) m x g m' y k) true false s
+  pub compare-step : {s : Together} (k : ℕ) → n ≡ k + 1 → s ≡ compare_step m x e m' y f
+      → compare_run n m x e m' y f ≡ by_together (λ g i. compare_run k m x g m' y i) true false s
   unfolding compare_run
-  compare-step {s} h q = by n h
-    where
-      by : (k : ℕ) → 0 < k → compare_run k m x e m' y f ≡ by_together (λ g i. compare_run (k - 1) m x g m' y i) true false s
-      by zero p = absurd (omega arith)
-      by (suc k) p = rw q (simp sub-one)
+  compare-step {s} k h q = let z : n ≡ suc k = omega arith in rw (z, q)
 
 module _ (m : List ℕ) (used x : ℕ) (m' : List ℕ) (used' y : ℕ) where
   pub compared-first : found_b m used x ≡ false → reply REMOVED 0 ≡ compared m used x m' used' y
@@ -46,8 +45,21 @@ module _ (m : List ℕ) (used x : ℕ) (m' : List ℕ) (used' y : ℕ) where
   unfolding compared refusal
   compared-done f g e r = simp (f, g) (ap (reply DONE) (r ∙ ap (λ (b : Bool). cond b 1 0) e))
 
+-- The guard of the first memory, and what is left to do where it lets the call through.
 module _ (m : List ℕ) (h : Header) (x : ℕ) (m' : List ℕ) (h' : Header) (y : ℕ) (s : List ℕ) {s₁ : List ℕ} {no : ℕ}
     (after : s₁ ≡ scratch_after m h s) (said : no ≡ guard_no m h (length s)) where
+  pub subtrees-err : {A : Type 0} (value : A → ℕ) (r : Result A Refusal) (e : Refusal) → no ≡ refusal_no e → IsErrAnd r (λ d. d ≡ e)
+      → (s₁, reply_by value r) ≡ subtrees_compared m h x m' h' y s
+  unfolding subtrees_compared
+  subtrees-err value r e n w =
+      let t : reply_by value r ≡ reply (guard_no m h (length s)) 0 = reply-refused value r e w ∙ ap (λ k. reply k 0) (sym n ∙ said) in
+      simp (ne_eqb (guard_no m h (length s)) DONE (λ d. refused-not_done e (sym n ∙ said ∙ d))) (cc)
+
+  pub subtrees-then : no ≡ DONE → guarded_read m' h' s₁ (compared m h.used x m' h'.used y) ≡ subtrees_compared m h x m' h' y s
+  unfolding subtrees_compared
+  subtrees-then d =
+      simp (eq-eqb (guard_no m h (length s)) DONE (sym said ∙ d)) (ap (λ (t : List ℕ). guarded_read m' h' t (compared m h.used x m' h'.used y)) after)
+
   pub subtrees-first : (no ≡ DONE → ⊥) → (s₁, reply no 0) ≡ subtrees_compared m h x m' h' y s
   unfolding subtrees_compared
   subtrees-first d = simp (ne_eqb (guard_no m h (length s)) DONE (λ e. d (said ∙ e))) (cc)

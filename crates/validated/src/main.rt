@@ -8,27 +8,28 @@
 
 mod text;
 
-ghost use Rattle.std.specs.Prelude.{◌<◌, ◌≤◌, IfOk, length};
+ghost use Rattle.std.specs.Prelude.{◌≤◌, IfOk, length};
 
-use crate::text::{line_end, numbers_of};
+use crate::text::numbers_of;
 use link::header::Header;
+use rules::answer::Reply;
 use sound::{guard, validate};
 use std::io;
 use std::io::{Print, Read};
 
 // The validator's number and result, and the scratch.
 fn validated(rt: &HostRuntime, words: &[u32], h: Header, scratch: &mut [u32]) -> io::Result<()> {
-    fill(scratch);
-    let answer = validate(words, h, scratch);
-    print!(rt; "{} {}", answer.number, answer.result)?;
+    scratch.fill(BEFORE);
+    let reply = Reply::from(validate(words, h, scratch));
+    print!(rt; "{} {}", reply.number, reply.result)?;
     report(rt, scratch, h.used)
 }
 
 // The guard's number, and the scratch.
 fn guarded(rt: &HostRuntime, words: &[u32], h: Header, scratch: &mut [u32]) -> io::Result<()> {
-    fill(scratch);
-    let number = guard(words, h, scratch);
-    print!(rt; " {number}")?;
+    scratch.fill(BEFORE);
+    let reply = Reply::from(guard(words, h, scratch));
+    print!(rt; " {}", reply.number)?;
     report(rt, scratch, h.used)?;
     println!(rt)
 }
@@ -41,23 +42,18 @@ fn answers(rt: &HostRuntime, words: &[u32], h: Header, scratch: &mut [u32]) -> i
 
 // One memory: the numbers of its line, and room for scratch.
 fn memory(rt: &HostRuntime, numbers: &[u32], room: &mut [u32]) -> io::Result<()> {
-    if numbers.len() < 4 {
+    let [used, first, last, lent, words @ ..] = numbers else {
         return println!(rt; "no memory");
-    }
-    let h = Header {
-        used: numbers[0],
-        first: numbers[1],
-        last: numbers[2],
     };
-    let lent = as_length(numbers[3]);
-    if room.len() < lent {
+    let h = Header {
+        used: *used,
+        first: *first,
+        last: *last,
+    };
+    let Some(scratch) = room.get_mut(..*lent as usize) else {
         return println!(rt; "no room");
-    }
-    answers(rt, &numbers[4..], h, &mut room[..lent])
-}
-
-fn as_length(n: u32) -> usize {
-    n as usize
+    };
+    answers(rt, words, h, scratch)
 }
 
 // The line of a memory.
@@ -68,31 +64,27 @@ fn memory_line(rt: &HostRuntime, line: &[u8]) -> io::Result<()> {
     memory(rt, &numbers[..count], &mut room)
 }
 
-// The line that starts at a place; answers the start of the next.
-fn line(rt: &HostRuntime, text: &[u8], at: usize) -> io::Result<usize>
-    requires { at < length text.now }
-    ensures { IfOk result (λ next. at < next) }
-{
-    let end = line_end(text, at);
-    if text[at] == b'#' {
-        rt.write_all(&text[at..end])?;
-        println!(rt)?;
+// One line, with its end or without.
+fn line(rt: &HostRuntime, ended: &[u8]) -> io::Result<()> {
+    let line = ended.strip_suffix(b"\n").unwrap_or(ended);
+    if line.starts_with(b"#") {
+        rt.write_all(line)?;
+        println!(rt)
     } else {
-        memory_line(rt, &text[at..end])?;
+        memory_line(rt, line)
     }
-    Ok(end + 1)
 }
 
 // Every line.
 fn lines(rt: &HostRuntime, text: &[u8]) -> io::Result<()> {
-    let mut at = 0;
-    while at < text.len() {
-        at = line(rt, text, at)?;
+    for ended in text.split_inclusive(|byte| *byte == b'\n') {
+        line(rt, ended)?;
     }
     Ok(())
 }
 
-// Reads until the bytes are full or the input ends; answers how many it put at the start.
+// Reads until the bytes are full or the input ends; answers how many it put at the start. How far a step goes is for the input to say,
+// so no range counts the steps.
 fn read_full(rt: &HostRuntime, bytes: &mut [u8]) -> io::Result<usize>
     ensures { IfOk result (λ n. n ≤ length bytes.new) }
 {
@@ -116,41 +108,20 @@ fn main(rt: HostRuntime) -> io::Result<()> {
 // What stands in every scratch word before a call.
 const BEFORE: u32 = 3735928559;
 
-fn fill(scratch: &mut [u32]) {
-    let mut i = 0;
-    while i < scratch.len() {
-        scratch[i] = BEFORE;
-        i += 1;
-    }
-}
-
-// Whether the words from one place up to another are all v.
-fn all_are(scratch: &[u32], from: usize, to: usize, v: u32) -> bool
-    requires { to ≤ length scratch.now }
-{
-    let mut i = from;
-    while i < to {
-        if scratch[i] != v {
-            return false;
-        }
-        i += 1;
-    }
-    true
+// Whether the words are all v.
+fn all_are(words: &[u32], v: u32) -> bool {
+    words.iter().all(|word| *word == v)
 }
 
 // Whether the first n words are zero and the others as before the call.
 fn zeroed(scratch: &[u32], n: usize) -> bool {
-    if n <= scratch.len() {
-        if all_are(scratch, 0, n, 0) {
-            return all_are(scratch, n, scratch.len(), BEFORE);
-        }
-    }
-    false
+    scratch.split_at_checked(n).is_some_and(|(first, others)| all_are(first, 0)
+        && all_are(others, BEFORE))
 }
 
 // Writes what became of the scratch.
 fn report(rt: &HostRuntime, scratch: &[u32], used: u32) -> io::Result<()> {
-    if all_are(scratch, 0, scratch.len(), BEFORE) {
+    if all_are(scratch, BEFORE) {
         print!(rt; " kept")
     } else if zeroed(scratch, 2 * (used as usize)) {
         print!(rt; " zero")

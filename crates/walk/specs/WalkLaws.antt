@@ -13,11 +13,10 @@ use Rattle.walk.specs.Edges.{edge_id, edge_code, next_of_next, step_from}
 use Rattle.walk.specs.Written.{written}
 use Rattle.walk.specs.WrittenLaws.{sets-written, sets_more}
 use Rattle.walk.specs.Runs.{yield_from}
-use Rattle.walk.specs.Walks.{before, traversal, codes, yielded_to, yielded}
+use Rattle.walk.specs.Walks.{Walked, before, traversal, codes, yielded_to, yielded}
 use Rattle.walk.specs.declared.edge.Edge.{Edge}
 use Rattle.walk.specs.declared.edge.Step.{Step}
 use Rattle.walk.specs.declared.edge.Step.TheVariants as S
-use Rattle.walk.specs.declared.walk.Walked.{Walked}
 
 module _ (n : ℕ) (m : List ℕ) (used root : ℕ) (list : List ℕ) (i : ℕ) where
   pub yield-out : (next : Step) → n ≤ 0 → yield_from n m used root next list i ≡ (list, i, next)

@@ -1,9 +1,10 @@
 -- The stepped walk as document 01 says it: what it yields, what it writes, what it answers, and where it stands afterwards.
 -- Excluded: a made-up edge count; an edge yielded although its identifier is not found; a list too short for the budget written to.
-use Rattle.std.specs.Prelude.{false, cond, not, List, [], ◌∷◌, ℕ, zero, suc, eqb, ltb, length}
+use Rattle.std.specs.Prelude.{false, cond, not, List, [], ◌∷◌, ℕ, zero, suc, Result, Ok, Err, eqb, ltb, length}
 use Rattle.link.specs.Found.{found_b}
 use Rattle.link.specs.declared.header.Header.{Header}
-use Rattle.rules.specs.Answers.{DONE, refusal}
+use Rattle.rules.specs.Answers.{DONE, refusal, refusal_no}
+use Rattle.rules.specs.declared.answer.Refusal.{Refusal}
 use Rattle.sound.specs.Guard.{frame_b}
 use Rattle.walk.specs.Edges.{edge_id, edge_code, next_of_next}
 use Rattle.walk.specs.Written.{written}
@@ -12,8 +13,17 @@ use Rattle.walk.specs.declared.edge.Edge.TheVariants.{Start}
 use Rattle.walk.specs.declared.edge.Step.{Step}
 use Rattle.walk.specs.declared.edge.Step.TheVariants as S
 use Rattle.walk.specs.declared.walk.Traverse.{Traverse}
-use Rattle.walk.specs.declared.walk.Started.{Started}
-use Rattle.walk.specs.declared.walk.Walked.{Walked}
+use Rattle.walk.specs.declared.walk.Yielded.{Yielded}
+
+-- In numbers: what the start of a walk answers; and what a walk answers: how many edges it yielded, and where it stands.
+pub record Started : Type 0 where
+  pub number : ℕ
+  pub walk : Traverse
+
+pub record Walked : Type 0 where
+  pub number : ℕ
+  pub result : ℕ
+  pub walk : Traverse
 
 -- By what is next: an edge, nothing, or nothing after an edge that was not found.
 abbrev pub by_step : {A : Type 0} → (Edge → A) → A → A → Step → A
@@ -39,6 +49,18 @@ codes (e ∷ es) = edge_code e ∷ codes es
 
 abbrev pub standing : ℕ → Step → Traverse
 standing root next = record { root = root; next = next }
+
+-- What is handed back, in numbers: a refused start is over at its root, a refused walk yields nothing and stays.
+abbrev pub started_by : ℕ → Result Traverse Refusal → Started
+started_by root (Ok walk) = record { number = DONE; walk = walk }
+started_by root (Err refused) = record { number = refusal_no refused; walk = standing root S.Over }
+
+abbrev pub yielded_by : Yielded → Walked
+yielded_by y = record { number = DONE; result = y.count; walk = y.walk }
+
+abbrev pub walked_by : Traverse → Result Yielded Refusal → Walked
+walked_by from (Ok y) = yielded_by y
+walked_by from (Err refused) = record { number = refusal_no refused; result = 0; walk = from }
 
 -- At the start: FRAME, then REMOVED. The next edge is Start of the root; a refused walk is over.
 unfoldable pub started : List ℕ → Header → ℕ → Started

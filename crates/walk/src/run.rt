@@ -1,53 +1,27 @@
 // Runs of edges: starts with the ends of leaves among them, ends up to the next sibling, and rounds of both.
+// A turn of `starts` writes one edge or two, and one of `rounds` a whole run: their loops count what is written, which no `for` could step.
 ghost use Rattle.std.specs.Prelude.{◌≡◌, ◌+◌, ◌-◌, ◌*◌, ◌<◌, ◌≤◌, length};
 ghost use Rattle.link.specs.Ids.{slot_of};
 ghost use Rattle.link.specs.Words.{width, link};
 ghost use Rattle.link.specs.Found.{found_b};
-ghost use Rattle.walk.specs.Runs.{yield_from, way_step, reached_at, Ended, Ran};
+ghost use Rattle.walk.specs.Edges.{next_of_next};
+ghost use Rattle.walk.specs.Runs.{yield_from, starting, ending, Ended, Ran};
 ghost use Rattle.walk.specs.declared.edge.Edge.TheVariants.{Start, End};
 ghost use Rattle.walk.specs.declared.edge.Step.TheVariants as S;
-ghost use Rattle.walk.specs.declared.run.Way.TheVariants.{Starting, Ending};
 
 use crate::edge::{Edge, Step};
 use link::id::{slot_of, stamp_of};
 use link::words::Slot;
 
-// What is next after a run: Start or End of a node, nothing, or an edge that is not found.
-#[derive(Clone, Copy)]
-pub enum Way {
-    Starting,
-    Ending,
-    Over,
-    Lost,
-}
-
 // How many edges are written then, and what is next.
-#[derive(Clone, Copy)]
+#[derive(Clone, Copy, Debug, PartialEq, Eq)]
 pub struct Reached {
     pub count: u32,
-    pub id: u32,
-    pub way: Way,
+    pub next: Step,
 }
 
-// The same as a step has it.
-pub fn step_at(way: Way, id: u32) -> Step
-    ensures { result ≡ way_step way id }
-{
-    match way {
-        Way::Starting => Step::Edge(Edge::Start(id)),
-        Way::Ending => Step::Edge(Edge::End(id)),
-        Way::Over => Step::Over,
-        Way::Lost => Step::Broken,
-    }
-}
-
-fn come_to(count: u32, id: u32, way: Way) -> Reached
-    ensures { result ≡ reached_at count id way }
-{
-    Reached { count, id, way }
-}
-
-// Where the words of a slot end.
+// Where the words of a slot end: counted once for the test and the links, where `found` and `link_of` count anew.
+// What that gains is not measured.
 fn end_of(slot: u32) -> usize
     ensures { result ≡ slot * width }
 {
@@ -60,16 +34,7 @@ fn found_to(words: &[u32], used: u32, last: usize, id: u32, end: usize) -> bool
     ensures { result ≡ found_b words.now used id }
 {
     let low = stamp_of(id);
-    if end == 0 {
-        return false;
-    }
-    if last < end {
-        return false;
-    }
-    if 32767 < low {
-        return false;
-    }
-    words[end - Slot::WORDS] == low
+    end != 0 && end <= last && low <= 32767 && words[end - Slot::WORDS] == low
 }
 
 // Link k of an identifier whose slot ends there.
@@ -80,7 +45,27 @@ fn link_to(words: &[u32], id: u32, end: usize, k: u32) -> u32
     words[end - Slot::WORDS + (k as usize)]
 }
 
-// End of a node, and what is next then; nothing follows End of the root.
+// What follows End of a node: nothing where it is the root.
+#[tactic(auto, unfolding(crate::specs::Edges::next_of_next, crate::specs::Edges::next_traverse))]
+fn after_end(words: &[u32], root: u32, id: u32, end: usize) -> Step
+    requires { (0 < end) × (end ≤ length words.now) × (end ≡ slot_of id * width) }
+    ensures { result ≡ next_of_next words.now root (End id) }
+{
+    if id == root {
+        return Step::Over;
+    }
+    let sibling = link_to(words, id, end, Slot::NEXT);
+    if sibling != 0 {
+        return Step::Edge(Edge::Start(sibling));
+    }
+    let parent = link_to(words, id, end, Slot::PARENT);
+    if parent != 0 {
+        return Step::Edge(Edge::End(parent));
+    }
+    Step::Over
+}
+
+// End of a node, and what is next then.
 fn write_end(
     words: &[u32],
     root: u32,
@@ -90,222 +75,147 @@ fn write_end(
     written: u32,
 ) -> Reached
     requires { (0 < end) × (end ≤ length words.now) × (end ≡ slot_of id * width) × (id + 32768 < 4294967296) × (written < length list.old) × (written < 4294967295) }
-    ensures { Ended words.now root id list.old written result.way result.id list.new result.count }
+    ensures { Ended words.now root id list.old written result.next list.new result.count }
 {
-    let at = written as usize;
-    list[at] = id + 32768;
-    let count = written + 1;
-    if id == root {
-        return come_to(count, id, Way::Over);
+    list[written as usize] = Edge::End(id).code();
+    Reached {
+        count: written + 1,
+        next: after_end(words, root, id, end),
     }
-    let sibling = link_to(words, id, end, Slot::NEXT);
-    if sibling != 0 {
-        return come_to(count, sibling, Way::Starting);
-    }
-    let parent = link_to(words, id, end, Slot::PARENT);
-    if parent == 0 {
-        return come_to(count, id, Way::Over);
-    }
-    come_to(count, parent, Way::Ending)
 }
 
-// From Start of a node, over first children and behind leaves over next siblings, to a leaf without one, as far as the budget goes.
-fn write_starts(
-    words: &[u32],
+// What a run reads and how far it goes: the node words, how many slots are in use, the root, and how many edges are wanted.
+// The list is lent to be written, so it can be in no struct that is copied: it comes beside this one, with how much of it is written.
+#[derive(Clone, Copy)]
+struct Run<'a> {
+    words: &'a [u32],
     used: u32,
     root: u32,
-    first: u32,
     budget: u32,
-    list: &mut [u32],
-    written: u32,
-) -> Reached
-    requires { (used ≤ 65535) × (used * width ≤ length words.now) × (written < budget) × (budget ≤ length list.old) }
-    ensures { Ran words.now used root budget (S.Edge (Start first)) list.old written Starting result.way result.id list.new result.count }
-{
-    let last = end_of(used);
-    let mut id = first;
-    let mut count = written;
-    while count < budget {
-        let end = end_of(slot_of(id));
-        if found_to(words, used, last, id, end) {
-            let at = count as usize;
-            list[at] = id;
+    ghost within: { (used ≤ 65535) × (used * width ≤ length words.now) },
+}
+
+impl<'a> Run<'a> {
+    // From Start of a node, over first children and behind leaves over next siblings, to a leaf without one, as far as the budget goes.
+    fn starts(self, first: u32, list: &mut [u32], written: u32) -> Reached
+        requires { (written < self.budget) × (self.budget ≤ length list.old) }
+        ensures { Ran self.entry.words.now self.entry.used self.entry.root self.entry.budget (S.Edge (Start first)) list.old written starting result.next list.new result.count }
+    {
+        let last = end_of(self.used);
+        let mut id = first;
+        let mut count = written;
+        while count < self.budget {
+            let end = end_of(slot_of(id));
+            if !found_to(self.words, self.used, last, id, end) {
+                return Reached {
+                    count,
+                    next: Step::Broken,
+                };
+            }
+            list[count as usize] = id;
             count += 1;
-            let child = link_to(words, id, end, Slot::FIRST);
+            let child = link_to(self.words, id, end, Slot::FIRST);
             if child != 0 {
                 id = child;
             } else {
-                if count == budget {
-                    return come_to(count, id, Way::Ending);
+                if count == self.budget {
+                    return Reached {
+                        count,
+                        next: Step::Edge(Edge::End(id)),
+                    };
                 }
-                let leaf = write_end(words, root, id, end, list, count);
-                let way = leaf.way;
-                match way {
-                    Way::Starting => {
-                        count = leaf.count;
-                        id = leaf.id;
-                    }
-                    Way::Ending => {
-                        return leaf;
-                    }
-                    Way::Over => {
-                        return leaf;
-                    }
-                    Way::Lost => {
-                        return leaf;
-                    }
-                }
+                let leaf = write_end(self.words, self.root, id, end, list, count);
+                let Step::Edge(Edge::Start(sibling)) = leaf.next else {
+                    return leaf;
+                };
+                count = leaf.count;
+                id = sibling;
             }
-        } else {
-            return come_to(count, id, Way::Lost);
+        }
+        Reached {
+            count,
+            next: Step::Edge(Edge::Start(id)),
         }
     }
-    come_to(count, id, Way::Starting)
-}
 
-// From End of a node up to the first with a next sibling, as far as the budget goes.
-fn write_ends(
-    words: &[u32],
-    used: u32,
-    root: u32,
-    first: u32,
-    budget: u32,
-    list: &mut [u32],
-    written: u32,
-) -> Reached
-    requires { (used ≤ 65535) × (used * width ≤ length words.now) × (written < budget) × (budget ≤ length list.old) }
-    ensures { Ran words.now used root budget (S.Edge (End first)) list.old written Ending result.way result.id list.new result.count }
-{
-    let last = end_of(used);
-    let mut id = first;
-    let mut count = written;
-    while count < budget {
-        let end = end_of(slot_of(id));
-        if found_to(words, used, last, id, end) {
-            let up = write_end(words, root, id, end, list, count);
-            let way = up.way;
-            match way {
-                Way::Starting => {
-                    return up;
-                }
-                Way::Ending => {
-                    count = up.count;
-                    id = up.id;
-                }
-                Way::Over => {
-                    return up;
-                }
-                Way::Lost => {
-                    return up;
-                }
+    // From End of a node up to the first with a next sibling, as far as the budget goes.
+    fn ends(self, first: u32, list: &mut [u32], written: u32) -> Reached
+        requires { (written < self.budget) × (self.budget ≤ length list.old) }
+        ensures { Ran self.entry.words.now self.entry.used self.entry.root self.entry.budget (S.Edge (End first)) list.old written ending result.next list.new result.count }
+    {
+        let last = end_of(self.used);
+        let mut id = first;
+        for count in written..self.budget {
+            let end = end_of(slot_of(id));
+            if !found_to(self.words, self.used, last, id, end) {
+                return Reached {
+                    count,
+                    next: Step::Broken,
+                };
             }
-        } else {
-            return come_to(count, id, Way::Lost);
+            let up = write_end(self.words, self.root, id, end, list, count);
+            let Step::Edge(Edge::End(parent)) = up.next else {
+                return up;
+            };
+            id = parent;
+        }
+        Reached {
+            count: self.budget,
+            next: Step::Edge(Edge::End(id)),
         }
     }
-    come_to(count, id, Way::Ending)
-}
 
-// From Start of a node down, and up from there.
-fn write_round(
-    words: &[u32],
-    used: u32,
-    root: u32,
-    first: u32,
-    budget: u32,
-    list: &mut [u32],
-    written: u32,
-) -> Reached
-    requires { (used ≤ 65535) × (used * width ≤ length words.now) × (written < budget) × (budget ≤ length list.old) }
-    ensures { Ran words.now used root budget (S.Edge (Start first)) list.old written Ending result.way result.id list.new result.count }
-{
-    let down = write_starts(words, used, root, first, budget, list, written);
-    let way = down.way;
-    match way {
-        Way::Ending => {
-            let leaf = down.id;
-            let count = down.count;
-            if count < budget {
-                return write_ends(words, used, root, leaf, budget, list, count);
-            }
+    // From Start of a node down, and up from there.
+    fn round(self, first: u32, list: &mut [u32], written: u32) -> Reached
+        requires { (written < self.budget) × (self.budget ≤ length list.old) }
+        ensures { Ran self.entry.words.now self.entry.used self.entry.root self.entry.budget (S.Edge (Start first)) list.old written ending result.next list.new result.count }
+    {
+        let down = self.starts(first, list, written);
+        let Step::Edge(Edge::End(leaf)) = down.next else {
             return down;
+        };
+        if down.count < self.budget {
+            return self.ends(leaf, list, down.count);
         }
-        Way::Starting => {
-            return down;
-        }
-        Way::Over => {
-            return down;
-        }
-        Way::Lost => {
-            return down;
-        }
+        down
     }
-}
 
-// From Start of a node, down and up and down again, until the budget is used or nothing is left.
-fn write_rounds(
-    words: &[u32],
-    used: u32,
-    root: u32,
-    first: u32,
-    budget: u32,
-    list: &mut [u32],
-    written: u32,
-) -> Reached
-    requires { (used ≤ 65535) × (used * width ≤ length words.now) × (written ≤ budget) × (budget ≤ length list.old) }
-    ensures { (list.new, result.count, way_step result.way result.id) ≡ yield_from (budget - written) words.now used root (S.Edge (Start first)) list.old written }
-{
-    let mut id = first;
-    let mut count = written;
-    while count < budget {
-        let round = write_round(words, used, root, id, budget, list, count);
-        let way = round.way;
-        match way {
-            Way::Starting => {
-                count = round.count;
-                id = round.id;
-            }
-            Way::Ending => {
+    // From Start of a node, down and up and down again, until the budget is used or nothing is left.
+    fn rounds(self, first: u32, list: &mut [u32], written: u32) -> Reached
+        requires { (written ≤ self.budget) × (self.budget ≤ length list.old) }
+        ensures { (list.new, result.count, result.next) ≡ yield_from (self.entry.budget - written) self.entry.words.now self.entry.used self.entry.root (S.Edge (Start first)) list.old written }
+    {
+        let mut id = first;
+        let mut count = written;
+        while count < self.budget {
+            let round = self.round(id, list, count);
+            let Step::Edge(Edge::Start(sibling)) = round.next else {
                 return round;
-            }
-            Way::Over => {
-                return round;
-            }
-            Way::Lost => {
-                return round;
-            }
+            };
+            count = round.count;
+            id = sibling;
+        }
+        Reached {
+            count,
+            next: Step::Edge(Edge::Start(id)),
         }
     }
-    come_to(count, id, Way::Starting)
-}
 
-// From End of a node, up and then in rounds.
-fn write_upwards(
-    words: &[u32],
-    used: u32,
-    root: u32,
-    first: u32,
-    budget: u32,
-    list: &mut [u32],
-) -> Reached
-    requires { (used ≤ 65535) × (used * width ≤ length words.now) × (0 < budget) × (budget ≤ length list.old) }
-    ensures { (list.new, result.count, way_step result.way result.id) ≡ yield_from budget words.now used root (S.Edge (End first)) list.old 0 }
-{
-    let up = write_ends(words, used, root, first, budget, list, 0);
-    let way = up.way;
-    match way {
-        Way::Starting => {
-            let next = up.id;
-            let count = up.count;
-            write_rounds(words, used, root, next, budget, list, count)
-        }
-        Way::Ending => up,
-        Way::Over => up,
-        Way::Lost => up,
+    // From End of a node, up and then in rounds.
+    fn upwards(self, first: u32, list: &mut [u32]) -> Reached
+        requires { (0 < self.budget) × (self.budget ≤ length list.old) }
+        ensures { (list.new, result.count, result.next) ≡ yield_from self.entry.budget self.entry.words.now self.entry.used self.entry.root (S.Edge (End first)) list.old 0 }
+    {
+        let up = self.ends(first, list, 0);
+        let Step::Edge(Edge::Start(sibling)) = up.next else {
+            return up;
+        };
+        self.rounds(sibling, list, up.count)
     }
 }
 
 // From either.
+#[tactic(auto, using(crate::specs::RunLaws::from_first))]
 pub fn write_from(
     words: &[u32],
     used: u32,
@@ -315,10 +225,16 @@ pub fn write_from(
     list: &mut [u32],
 ) -> Reached
     requires { (used ≤ 65535) × (used * width ≤ length words.now) × (0 < budget) × (budget ≤ length list.old) }
-    ensures { (list.new, result.count, way_step result.way result.id) ≡ yield_from budget words.now used root (S.Edge e) list.old 0 }
+    ensures { (list.new, result.count, result.next) ≡ yield_from budget words.now used root (S.Edge e) list.old 0 }
 {
+    let run = Run {
+        words,
+        used,
+        root,
+        budget,
+    };
     match e {
-        Edge::Start(id) => write_rounds(words, used, root, id, budget, list, 0),
-        Edge::End(id) => write_upwards(words, used, root, id, budget, list),
+        Edge::Start(id) => run.rounds(id, list, 0),
+        Edge::End(id) => run.upwards(id, list),
     }
 }

@@ -1,5 +1,5 @@
 // The walk in the form that document 01 names: a struct that holds the memory it reads, the root and the next edge.
-// The first two functions make and step it; the third has plain parameters and serves every other caller.
+// Its two functions make and step it; `walk_next` has plain parameters and serves every other caller.
 
 #![tactic(auto)]
 
@@ -17,27 +17,29 @@ pub struct Walker<'a> {
     pub next: Edge,
 }
 
-pub fn new<'a>(words: &'a [u32], used: u32, root: u32, next: Edge) -> Walker<'a>
-    ensures { (result.words ≡ words.entry) × (result.used ≡ used) × (result.root ≡ root) × (result.next ≡ next) }
-{
-    Walker {
-        words: words,
-        used: used,
-        root: root,
-        next: next,
+impl<'a> Walker<'a> {
+    pub fn new(words: &'a [u32], used: u32, root: u32, next: Edge) -> Walker<'a>
+        ensures { (result.words ≡ words.entry) × (result.used ≡ used) × (result.root ≡ root) × (result.next ≡ next) }
+    {
+        Walker {
+            words,
+            used,
+            root,
+            next,
+        }
     }
-}
 
-// What comes after the next edge, or broken where that edge is not found.
-pub fn next<'a>(w: Walker<'a>) -> Step
-    ensures { result ≡ step_from w.entry.words.now w.entry.used w.entry.root w.entry.next }
-{
-    step_from(w.words, w.used, w.root, w.next)
+    // What comes after the next edge, or broken where that edge is not found.
+    pub fn next(self) -> Step
+        ensures { result ≡ step_from self.entry.words.now self.entry.used self.entry.root self.entry.next }
+    {
+        step_from(self.words, self.used, self.root, self.next)
+    }
 }
 
 // From a slice to a walker and back: whoever calls this needs no walk by hand.
 pub fn walk_next(words: &[u32], used: u32, root: u32, next: Edge) -> Step
     ensures { result ≡ step_from words.now used root next }
 {
-    crate::next(new(words, used, root, next))
+    Walker::new(words, used, root, next).next()
 }

@@ -20,7 +20,6 @@ use Rattle.walk.specs.Edges.{next_of_next}
 use Rattle.walk.specs.declared.edge.Edge.{Edge}
 use Rattle.walk.specs.declared.edge.Edge.TheVariants.{Start}
 use Rattle.walk.specs.declared.edge.Step.{Step}
-use Rattle.walk.specs.declared.edge.Step.TheVariants as S
 use Rattle.subtree.specs.Compare.{alike, together, compare_step, by_together, compare_run, compared}
 use Rattle.subtree.specs.declared.Together.TheVariants.{Different}
 use Rattle.walks.specs.Orders.{numbered, size}

@@ -1,12 +1,13 @@
 -- The contract of `arena::arena::census`.
-use Rattle.arena.specs.CensusCallLaws.{census-passed, census-stopped}
+use Rattle.std.proofs.Common.{refl}
+use Rattle.arena.specs.CensusCallLaws.{census-passed, census-err}
 use Rattle.arena.proofs.arena.census.Goals as goal
 
-pub count_census-census-requires : goal.count_census-census-requires
-count_census-census-requires c = (c.guard-refused.ensures.exact.0 c.if-refused-eq-DONE.true).0
+pub returns-in_err-guard : goal.returns-in_err-guard
+returns-in_err-guard c = census-err _ _ _ c.in_err-guard.ensures.outcome.0 c.in_err-guard.ensures.outcome.1 _ _ refl c.from_residual.ensures.1
 
-pub returns-then-refused-eq-DONE : goal.returns-then-refused-eq-DONE
-returns-then-refused-eq-DONE c = census-passed _ _ _ c.guard-refused.ensures.outcome.0 c.guard-refused.ensures.outcome.1 c.if-refused-eq-DONE.true c.count_census-census.ensures
+pub count_census-requires : goal.count_census-requires
+count_census-requires c = (c.in_ok-guard.ensures.exact.0 refl).0
 
 pub returns : goal.returns
-returns c = census-stopped _ _ _ c.guard-refused.ensures.outcome.0 c.guard-refused.ensures.outcome.1 c.if-refused-eq-DONE.false
+returns c = census-passed _ _ _ c.in_ok-guard.ensures.outcome.0 c.in_ok-guard.ensures.outcome.1 refl c.count_census.ensures

@@ -1,15 +1,19 @@
 -- The contract of `arena::arena::new_node`.
+use Rattle.std.proofs.Common.{refl}
+use Rattle.rules.specs.declared.answer.Created.{Created}
+use Rattle.sound.specs.GuardedLaws.{guarded-done, guarded-err}
 use Rattle.arena.specs.Create.{new_call}
-use Rattle.sound.specs.GuardedLaws.{guarded-done, guarded-refused}
 use Rattle.arena.proofs.arena.new_node.Goals as goal
 
-pub create-requires : goal.create-requires
-create-requires c = let w = c.guard-refused.ensures.exact.0 c.if-refused-eq-DONE.true in (w.2, w.0)
-
-pub returns-then-refused-eq-DONE : goal.returns-then-refused-eq-DONE
+pub returns-in_err-guard : goal.returns-in_err-guard
 unfolding new_call
-returns-then-refused-eq-DONE c = guarded-done _ _ _ c.guard-refused.ensures.outcome.0 c.guard-refused.ensures.outcome.1 c.if-refused-eq-DONE.true c.create.ensures
+returns-in_err-guard c =
+    guarded-err _ _ _ c.in_err-guard.ensures.outcome.0 c.in_err-guard.ensures.outcome.1 (λ _ (made : Created). made.header) (λ (made : Created). made.id)
+    _ _ _ refl c.from_residual.ensures.1
+
+pub create-requires : goal.create-requires
+create-requires c = let w = c.in_ok-guard.ensures.exact.0 refl in (w.2, w.0)
 
 pub returns : goal.returns
 unfolding new_call
-returns c = guarded-refused _ _ _ c.guard-refused.ensures.outcome.0 c.guard-refused.ensures.outcome.1 _ c.if-refused-eq-DONE.false
+returns c = guarded-done _ _ _ c.in_ok-guard.ensures.outcome.0 c.in_ok-guard.ensures.outcome.1 refl c.create.ensures

@@ -1,7 +1,6 @@
 -- The contract of `arena::census::count_census`.
 use lib.ListN.{length}
 use Rattle.sound.specs.GuardLaws.{capacity-fits}
-use Rattle.arena.specs.Census.{census_of}
 use Rattle.arena.proofs.census.count_census.Goals as goal
 
 pub count_live-requires : goal.count_live-requires
@@ -12,7 +11,3 @@ count_stamps-requires c = (capacity-fits (length c.args.words.now) c.args.h.used
 
 pub count_stamps-requires-2 : goal.count_stamps-requires-2
 count_stamps-requires-2 c = (capacity-fits (length c.args.words.now) c.args.h.used c.requires).1
-
-pub returns : goal.returns
-unfolding census_of
-returns c = cc

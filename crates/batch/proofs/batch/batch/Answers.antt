@@ -1,5 +1,6 @@
 -- The contract of `batch::batch::batch`.
-use mathlib.Core.Path.{sym}
+use mathlib.Core.Path.{sym, ap}
+use Rattle.std.proofs.Common.{is_some}
 use native.Mathlib.Omega.{arith}
 use lib.ListN.{length}
 use borrow.Author.Rules.{rules}
@@ -26,7 +27,7 @@ perform-done-requires c =
     let e = c.answers_of-count.ensures in
     let b = answers-bound (length a.trace.now) in
     let l = c.if-list-count.false in
-    (knows-nothing a.words.now a.h a.scratch.now c.nothing.ensures.0 c.nothing.ensures.1, omega arith, omega arith)
+    (knows-nothing a.words.now a.h a.scratch.now (ap is_some c.nothing.ensures.0) c.nothing.ensures.1, omega arith, omega arith)
 
 pub put_part-requires : goal.put_part-requires
 put_part-requires c =

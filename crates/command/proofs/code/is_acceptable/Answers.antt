@@ -1,7 +1,7 @@
 -- The contract of `command::code::is_acceptable`.
-use mathlib.Core.Path.{◌≡◌, sym}
+use mathlib.Core.Path.{◌≡◌, refl, sym, ◌∙◌}
 use native.Mathlib.Omega.{arith}
-use borrow.Author.Tests.{ne_eqb, le-ltb}
+use borrow.Author.Tests.{ne_eqb, le-ltb, lt-leb}
 use borrow.Author.Rules.{rules}
 use Rattle.command.specs.Codes.{acceptable}
 use Rattle.command.specs.LimitLaws.{arguments-few, over_first, within_first}
@@ -9,32 +9,20 @@ use Rattle.command.proofs.code.is_acceptable.Goals as goal
 
 pub returns-then-unused-ne0 : goal.returns-then-unused-ne0
 unfolding acceptable
-returns-then-unused-ne0 c = simp (ne_eqb c.args.code 0 (λ (e : c.args.code ≡ 0). let p = c.requires.2 in omega arith), le-ltb _ _ c.requires.3, ne_eqb _ _ c.if-unused-ne0.true)
+returns-then-unused-ne0 c = simp (ne_eqb c.args.code 0 (λ (e : c.args.code ≡ 0). let p = c.requires.0 in omega arith), le-ltb _ _ c.requires.1, ne_eqb _ _ c.if-unused-ne0.true)
 
-pub overflow_mul-at : goal.overflow_mul-at
-overflow_mul-at c = let f = arguments-few c.args.code in let e = c.arguments_of.ensures in search rules
+pub bounds-at : goal.bounds-at
+bounds-at c = let f = arguments-few c.args.code in let e = c.arguments_of.ensures in search rules
 
-pub offset_bounds-limits-at : goal.offset_bounds-limits-at
-offset_bounds-limits-at c = let f = arguments-few c.args.code in let e = c.arguments_of.ensures in search rules
+pub bounds-at-then-a-at : goal.bounds-at-then-a-at
+bounds-at-then-a-at c = let f = arguments-few c.args.code in let e = c.arguments_of.ensures in search rules
 
-pub bounds-limits-at : goal.bounds-limits-at
-bounds-limits-at c = let f = arguments-few c.args.code in let e = c.arguments_of.ensures in search rules
-
-pub returns-then-limits-at : goal.returns-then-limits-at
-returns-then-limits-at c =
+pub returns-then-a-at : goal.returns-then-a-at
+returns-then-a-at c =
     let a = c.args in let p = c.requires in
-    sym (over_first a.code a.unused a.a a.b p.2 p.3 c.if-unused-ne0.false p.1 c.arguments_of.ensures (search rules) c.if-limits-at.true)
+    within_first a.code a.unused a.a a.b p.0 p.1 c.if-unused-ne0.false refl c.arguments_of.ensures (search rules) (search rules) c.if-a-at.true
 
-pub overflow_add-result : goal.overflow_add-result
-overflow_add-result c = let f = arguments-few c.args.code in let e = c.arguments_of.ensures in search rules
-
-pub offset_bounds-limits-at-2 : goal.offset_bounds-limits-at-2
-offset_bounds-limits-at-2 c = let f = arguments-few c.args.code in let e = c.arguments_of.ensures in search rules
-
-pub bounds-limits-at-2 : goal.bounds-limits-at-2
-bounds-limits-at-2 c = let f = arguments-few c.args.code in let e = c.arguments_of.ensures in search rules
-
-pub returns : goal.returns
-returns c =
+pub returns-else-a-at : goal.returns-else-a-at
+returns-else-a-at c =
     let a = c.args in let p = c.requires in
-    within_first a.code a.unused a.a a.b p.2 p.3 c.if-unused-ne0.false p.1 c.arguments_of.ensures (search rules) (search rules) c.if-limits-at.false
+    lt-leb _ _ c.if-a-at.false ∙ sym (over_first a.code a.unused a.a a.b p.0 p.1 c.if-unused-ne0.false refl c.arguments_of.ensures (search rules) c.if-a-at.false)

@@ -11,7 +11,7 @@ use Rattle.command.proofs.start.start.Goals.{in_default-via-then-c-lt1, in_defau
 pub returns-then-is_ready : goal.returns-then-is_ready
 returns-then-is_ready c =
     let a = c.args in
-    starts-ready a.c a.words.now a.h a.scratch.now c.readied.ensures c.requires.0 (sym c.is_ready.ensures ∙ c.if-is_ready.true)
+    starts-ready a.c a.words.now a.h a.scratch.now c.readied.ensures c.requires (sym c.is_ready.ensures ∙ c.if-is_ready.true)
 
 pub returns-then-is_acceptable : goal.returns-then-is_acceptable
 returns-then-is_acceptable c =
@@ -23,11 +23,11 @@ pub returns-else-is_acceptable : goal.returns-else-is_acceptable
 returns-else-is_acceptable c =
     let a = c.args in
     starts-answered (commanded a.c) a.words.now a.h a.scratch.now c.refused.ensures
-    (did_rejected a.c a.words.now a.h a.scratch.now (sym c.is_acceptable.ensures ∙ c.if-is_acceptable.false) c.requires.0)
+    (did_rejected a.c a.words.now a.h a.scratch.now (sym c.is_acceptable.ensures ∙ c.if-is_acceptable.false) c.requires)
 
 pub returns-in_default : goal.returns-in_default
 returns-in_default c =
     let a = c.args in
     starts-answered (commanded a.c) a.words.now a.h a.scratch.now c.refused-in_default.ensures
     (did_rejected a.c a.words.now a.h a.scratch.now (unknown a.c.code a.c.unused a.c.a a.c.b
-    (elim c.in_default.branch [ in_default-via-then-c-lt1 w ↦ inl (omega arith) | in_default-via-else-c-lt1+else-c-lt25 w ↦ inr (omega arith) ])) c.requires.0)
+    (elim c.in_default.branch [ in_default-via-then-c-lt1 w ↦ inl (omega arith) | in_default-via-else-c-lt1+else-c-lt25 w ↦ inr (omega arith) ])) c.requires)

@@ -14,18 +14,18 @@ found_within-requires c = let a = c.args in (capacity-fits (length a.words.now) 
 pub set_word-requires : goal.set_word-requires
 set_word-requires c =
     let a = c.args in
-    let w = named-slot a.words.now a.h a.id (named-done a.words.now a.h a.id c.requires (sym c.found_within.ensures ∙ c.if-found_within.true)) in
+    let w = named-slot a.words.now a.h a.id (named-done a.words.now a.h a.id c.requires (sym c.found_within.ensures ∙ c.if-not-found_within.false)) in
     let e = c.slot_of.ensures in
     (rw e w.0, rw e w.1, omega arith)
-
-pub returns-then-found_within : goal.returns-then-found_within
-returns-then-found_within c =
-    let a = c.args in
-    let d = named-done a.words.now a.h a.id c.requires (sym c.found_within.ensures ∙ c.if-found_within.true) in
-    set-done a.words.now a.h a.id a.value (sym d) refl
-    (c.set_word.ensures ∙ ap (λ s. set_word a.words.now s NUMBER a.value) c.slot_of.ensures ∙ sym (set_link-some a.words.now a.id NUMBER a.value (named-slot a.words.now a.h a.id d).0))
 
 pub returns : goal.returns
 returns c =
     let a = c.args in
-    set-refused a.words.now a.h a.id a.value (sym (named-removed a.words.now a.h a.id c.requires (sym c.found_within.ensures ∙ c.if-found_within.false))) (λ e. omega arith)
+    let d = named-done a.words.now a.h a.id c.requires (sym c.found_within.ensures ∙ c.if-not-found_within.false) in
+    set-done a.words.now a.h a.id a.value (sym d) refl
+    (c.set_word.ensures ∙ ap (λ s. set_word a.words.now s NUMBER a.value) c.slot_of.ensures ∙ sym (set_link-some a.words.now a.id NUMBER a.value (named-slot a.words.now a.h a.id d).0))
+
+pub returns-then-not-found_within : goal.returns-then-not-found_within
+returns-then-not-found_within c =
+    let a = c.args in
+    set-refused a.words.now a.h a.id a.value (sym (named-removed a.words.now a.h a.id c.requires (sym c.found_within.ensures ∙ c.if-not-found_within.true))) (λ e. omega arith)

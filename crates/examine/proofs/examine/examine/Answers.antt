@@ -1,10 +1,7 @@
 -- The contract of `examine::examine::examine`.
-use mathlib.Core.Path.{◌≡◌, ◌∙◌, sym, ap}
-use mathlib.Core.Bool.{Bool, true, false}
-use mathlib.Core.List.{List}
-use Prim.Native.Nat.{ℕ, ◌*◌}
-use Rattle.examine.specs.Scratch.{zeroed}
-use Rattle.examine.specs.Examination.{links_ok, examined}
+use native.Mathlib.Omega.{arith}
+use Rattle.std.proofs.lemmas.Bool.Decides.{nat_tests}
+use Rattle.examine.specs.Examination.{examined}
 use Rattle.examine.specs.PassLaws.{links_is, links-within}
 use Rattle.examine.proofs.examine.examine.Goals as goal
 
@@ -12,26 +9,14 @@ pub returns-then-sound : goal.returns-then-sound
 unfolding examined
 returns-then-sound c =
     let a = c.args in
-    let fits = c.requires in
-    let run = c.links_ok-sound.ensures in
-    let yes : links_ok a.words.now a.h.used ≡ true =
-    sym (links_is a.words.now a.h.used a.scratch.now fits.0 fits.2) ∙ sym (ap (λ (p : List ℕ × Bool). p.1) run) ∙ c.if-sound.true in (
-      c.zero_fill.ensures
-          ∙ ap (λ (p : List ℕ × Bool). zeroed (2 * a.h.used) p.0) run
-          ∙ (links-within a.words.now a.h.used a.scratch.now).same-zeroed,
-      simp yes c.free_chain.ensures,
-    )
+    let kept = links-within a.words.now a.h.used a.scratch.now in
+    let said = links_is a.words.now a.h.used a.scratch.now c.requires.0 c.requires.2 in
+    (grind arith, grind (arith, nat_tests))
 
-pub returns : goal.returns
+pub returns-else-sound : goal.returns-else-sound
 unfolding examined
-returns c =
+returns-else-sound c =
     let a = c.args in
-    let fits = c.requires in
-    let run = c.links_ok-sound.ensures in
-    let no : links_ok a.words.now a.h.used ≡ false =
-    sym (links_is a.words.now a.h.used a.scratch.now fits.0 fits.2) ∙ sym (ap (λ (p : List ℕ × Bool). p.1) run) ∙ c.if-sound.false in (
-      c.zero_fill.ensures
-          ∙ ap (λ (p : List ℕ × Bool). zeroed (2 * a.h.used) p.0) run
-          ∙ (links-within a.words.now a.h.used a.scratch.now).same-zeroed,
-      simp no,
-    )
+    let kept = links-within a.words.now a.h.used a.scratch.now in
+    let said = links_is a.words.now a.h.used a.scratch.now c.requires.0 c.requires.2 in
+    (grind arith, grind (arith, nat_tests))

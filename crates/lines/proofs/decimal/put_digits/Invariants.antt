@@ -1,13 +1,8 @@
 -- The contract of `lines::decimal::put_digits`.
 use mathlib.Core.Path.{◌≡◌}
-use Prim.Native.Nat.{◌≤◌}
-use lib.ListN.{length}
 use lib.Seq.{sets}
 use Rattle.lines.specs.Decimal.{digits_of}
 use Rattle.lines.proofs.decimal.put_digits.Given as goal
 
 abbrev pub invariant-loop-i : goal.invariant-loop-i
-invariant-loop-i l = (l.i ≤ l.k) × (length l.out ≡ length l.initial.out) × (sets l.out l.at (digits_of l.i l.rest) ≡ sets l.initial.out l.at (digits_of l.k l.n))
-
-abbrev pub decreases-loop-i : goal.decreases-loop-i
-decreases-loop-i l = l.i
+invariant-loop-i l = sets l.out l.at (digits_of l.i l.rest) ≡ sets l.initial.out l.at (digits_of l.k l.n)

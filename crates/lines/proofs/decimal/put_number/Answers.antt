@@ -1,21 +1,13 @@
 -- The contract of `lines::decimal::put_number`.
-use borrow.Author.Rules.{rules}
+use native.Mathlib.Omega.{arith}
 use Rattle.lines.specs.LineLaws.{places-bound, number_put}
 use Rattle.lines.proofs.decimal.put_number.Goals as goal
 
 pub put_digits-requires : goal.put_digits-requires
-put_digits-requires c =
-    let a = c.args in
-    let e = c.places-k.ensures in
-    let b = places-bound a.n in
-    search rules
+put_digits-requires c = omega (arith, places-bound c.args.n)
 
 pub overflow_add-result : goal.overflow_add-result
-overflow_add-result c =
-    let a = c.args in
-    let e = c.places-k.ensures in
-    let b = places-bound a.n in
-    search rules
+overflow_add-result c = omega (arith, places-bound c.args.n)
 
 pub returns : goal.returns
 returns c =

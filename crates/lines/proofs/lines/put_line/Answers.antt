@@ -1,56 +1,36 @@
 -- The contract of `lines::lines::put_line`.
-use mathlib.Core.Path.{◌∙◌}
+use Prim.Native.Nat.{ℕ}
 use native.Mathlib.Omega.{arith}
 use lib.ListN.{length-set}
-use borrow.Author.Rules.{rules}
-use Rattle.lines.specs.LineLaws.{number-end, number-places, line-done}
+use Rattle.lines.specs.LineLaws.{number-end, line-done}
 use Rattle.lines.proofs.lines.put_line.Goals as goal
 
 pub bounds-out-space : goal.bounds-out-space
 bounds-out-space c =
-    let a = c.args in
-    let e = number-end a.out.now a.at a.number c.put_number-space.ensures in
-    let p = number-places a.out.now a.at a.number c.put_number-space.ensures in
+    let e = number-end _ _ _ c.put_number-space.ensures in
     omega arith
 
 pub overflow_add-space : goal.overflow_add-space
 overflow_add-space c =
-    let a = c.args in
-    let e = number-end a.out.now a.at a.number c.put_number-space.ensures in
-    search rules
+    let e = number-end _ _ _ c.put_number-space.ensures in
+    omega arith
 
 pub put_number-end-requires : goal.put_number-end-requires
 put_number-end-requires c =
-    let a = c.args in
-    let e = number-end a.out.now a.at a.number c.put_number-space.ensures in
-    let p = number-places a.out.now a.at a.number c.put_number-space.ensures in
-    let s = length-set c.put_number-space.new.out c.put_number-space.result 32 in
-    omega arith
+    let e = number-end _ _ _ c.put_number-space.ensures in
+    omega (arith, length-set {A = ℕ})
 
 pub bounds-out-end : goal.bounds-out-end
 bounds-out-end c =
-    let a = c.args in
-    let e = number-end a.out.now a.at a.number c.put_number-space.ensures in
-    let p = number-places a.out.now a.at a.number c.put_number-space.ensures in
-    let s = length-set c.put_number-space.new.out c.put_number-space.result 32 in
+    let e = number-end _ _ _ c.put_number-space.ensures in
     let f = number-end _ _ _ c.put_number-end.ensures in
-    let q = number-places _ _ _ c.put_number-end.ensures in
-    omega arith
+    omega (arith, length-set {A = ℕ})
 
 pub overflow_add-result : goal.overflow_add-result
 overflow_add-result c =
-    let a = c.args in
-    let e = number-end a.out.now a.at a.number c.put_number-space.ensures in
+    let e = number-end _ _ _ c.put_number-space.ensures in
     let f = number-end _ _ _ c.put_number-end.ensures in
-    search rules
-
-pub shape_of-out : goal.shape_of-out
-shape_of-out c =
-    let a = c.args in
-    length-set c.put_number-end.new.out c.put_number-end.result 10
-    ∙ number-places _ _ _ c.put_number-end.ensures
-    ∙ length-set c.put_number-space.new.out c.put_number-space.result 32
-    ∙ number-places a.out.now a.at a.number c.put_number-space.ensures
+    omega arith
 
 pub returns : goal.returns
 returns c = let a = c.args in line-done a.out.now a.at a.number a.res c.put_number-space.ensures c.put_number-end.ensures

@@ -1,14 +1,17 @@
 -- The contract of `lists::calls::descendant_count`.
+use mathlib.Core.Path.{refl}
+use Rattle.sound.specs.GuardedLaws.{read-passed, read-err}
 use Rattle.lists.specs.Listing.{counted}
-use Rattle.lists.specs.ListingLaws.{read_done, read-refused}
 use Rattle.lists.proofs.calls.descendant_count.Goals as goal
 
-pub returns-then-number-eq0 : goal.returns-then-number-eq0
-returns-then-number-eq0 c =
+pub returns-in_err-guard : goal.returns-in_err-guard
+returns-in_err-guard c =
     let a = c.args in
-    read_done a.words.now a.h a.scratch.now c.guard-number.ensures.outcome.0 c.guard-number.ensures.outcome.1 c.if-number-eq0.true c.count_nodes.ensures
+    let g = c.in_err-guard.ensures.outcome in
+    read-err a.words.now a.h a.scratch.now g.0 g.1 (λ n. n) (counted a.words.now a.h.used a.id) _ _ refl c.from_residual.ensures.1
 
 pub returns : goal.returns
 returns c =
     let a = c.args in
-    read-refused a.words.now a.h a.scratch.now c.guard-number.ensures.outcome.0 c.guard-number.ensures.outcome.1 (counted a.words.now a.h.used a.id) c.if-number-eq0.false
+    let g = c.in_ok-guard.ensures.outcome in
+    read-passed a.words.now a.h a.scratch.now g.0 g.1 refl c.count_nodes.ensures

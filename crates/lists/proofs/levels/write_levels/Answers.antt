@@ -10,7 +10,7 @@ use Rattle.walk.specs.Written.{written}
 use Rattle.lists.specs.Levels.{level_order}
 use Rattle.lists.specs.Storing.{stored_at}
 use Rattle.lists.specs.OrderLinks.{linked-children}
-use Rattle.lists.specs.LoopLaws.{ordered-most}
+use Rattle.lists.specs.OrderLaws.{ordered-most}
 use Rattle.lists.specs.LevelLaws.{levelling-begin, levelling-more, levelling-end}
 use Rattle.lists.specs.declared.order.Order.TheVariants.{Children}
 use Rattle.lists.proofs.levels.write_levels.Goals as goal

@@ -6,18 +6,17 @@ use borrow.Author.Tests.{eq-eqb, ne_eqb}
 use Rattle.lists.specs.Orders.{after_subtree}
 use Rattle.lists.specs.OrderLaws.{after-out, after-step}
 use Rattle.lists.proofs.order.behind.Goals as goal
+use Rattle.lists.proofs.order.behind.Goals.{then-steps-eq0-via-then-steps-eq0, then-steps-eq0-via-else-steps-eq0+then-y-root}
 
 pub returns-then-steps-eq0 : goal.returns-then-steps-eq0
 returns-then-steps-eq0 c =
     let a = c.args in
-    let z = c.if-steps-eq0.true in
-    sym (after-out a.steps a.words.now a.root a.y (omega arith))
-
-pub returns-then-y-root : goal.returns-then-y-root
-returns-then-y-root c =
-    let a = c.args in
-    let z = c.if-steps-eq0.false in
-    sym (simp (eq-eqb a.y a.root c.if-y-root.true) at (after-step a.steps a.words.now a.root a.y (omega arith)))
+    elim c.then-steps-eq0.branch [
+      | then-steps-eq0-via-then-steps-eq0 w ↦ sym (after-out a.steps a.words.now a.root a.y (omega arith))
+      | then-steps-eq0-via-else-steps-eq0+then-y-root w ↦
+          let z = w.if-steps-eq0.false in
+          sym (simp (eq-eqb a.y a.root w.if-y-root.true) at (after-step a.steps a.words.now a.root a.y (omega arith)))
+    ]
 
 pub returns-then-next-ne0 : goal.returns-then-next-ne0
 returns-then-next-ne0 c =

@@ -1,9 +1,12 @@
 -- The contract of `moves::calls::checked_detach`.
-use Rattle.sound.specs.GuardedLaws.{guarded-done, guarded-refused}
+use mathlib.Core.Path.{refl}
+use Rattle.sound.specs.GuardedLaws.{guarded-done, guarded-err}
 use Rattle.moves.proofs.calls.checked_detach.Goals as goal
 
-pub returns-then-number-eq-DONE : goal.returns-then-number-eq-DONE
-returns-then-number-eq-DONE c = guarded-done _ _ _ c.guard-number.ensures.outcome.0 c.guard-number.ensures.outcome.1 c.if-number-eq-DONE.true c.detach_node.ensures
+pub returns-in_err-guard : goal.returns-in_err-guard
+returns-in_err-guard c =
+    let g = c.in_err-guard.ensures.outcome in
+    guarded-err _ _ _ g.0 g.1 (λ h _. h) (λ _. 0) _ _ _ refl c.from_residual.ensures.1
 
 pub returns : goal.returns
-returns c = guarded-refused _ _ _ c.guard-number.ensures.outcome.0 c.guard-number.ensures.outcome.1 _ c.if-number-eq-DONE.false
+returns c = let g = c.in_ok-guard.ensures.outcome in guarded-done _ _ _ g.0 g.1 refl c.detach_node.ensures

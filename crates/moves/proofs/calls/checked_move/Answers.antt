@@ -1,12 +1,15 @@
 -- The contract of `moves::calls::checked_move`.
-use Rattle.sound.specs.GuardedLaws.{guarded-done, guarded-refused}
+use mathlib.Core.Path.{refl}
+use Rattle.sound.specs.GuardedLaws.{guarded-done, guarded-err}
 use Rattle.moves.proofs.calls.checked_move.Goals as goal
 
-pub move_node-requires : goal.move_node-requires
-move_node-requires c = (c.guard-number.ensures.exact.0 c.if-number-eq-DONE.true).0
+pub returns-in_err-guard : goal.returns-in_err-guard
+returns-in_err-guard c =
+    let g = c.in_err-guard.ensures.outcome in
+    guarded-err _ _ _ g.0 g.1 (λ h _. h) (λ _. 0) _ _ _ refl c.from_residual.ensures.1
 
-pub returns-then-number-eq-DONE : goal.returns-then-number-eq-DONE
-returns-then-number-eq-DONE c = guarded-done _ _ _ c.guard-number.ensures.outcome.0 c.guard-number.ensures.outcome.1 c.if-number-eq-DONE.true c.move_node.ensures
+pub move_node-requires : goal.move_node-requires
+move_node-requires c = (c.in_ok-guard.ensures.exact.0 refl).0
 
 pub returns : goal.returns
-returns c = guarded-refused _ _ _ c.guard-number.ensures.outcome.0 c.guard-number.ensures.outcome.1 _ c.if-number-eq-DONE.false
+returns c = let g = c.in_ok-guard.ensures.outcome in guarded-done _ _ _ g.0 g.1 refl c.move_node.ensures

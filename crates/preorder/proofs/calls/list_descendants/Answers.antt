@@ -2,35 +2,34 @@
 use mathlib.Core.Path.{refl, sym, ◌∙◌}
 use borrow.Author.Rules.{rules}
 use Rattle.lists.specs.Orders.{ordered}
-use Rattle.lists.specs.OrderLaws.{stored-whole}
-use Rattle.lists.specs.LoopLaws.{ordered-most}
+use Rattle.lists.specs.OrderLaws.{stored-whole, ordered-most}
 use Rattle.lists.specs.ListingLaws.{fits-room, listed-removed, listed-room, listed-done}
 use Rattle.lists.specs.declared.order.Order.TheVariants.{Descendants}
 use Rattle.preorder.proofs.calls.list_descendants.Goals as goal
 
-pub write_preorder-result-requires : goal.write_preorder-result-requires
-write_preorder-result-requires c =
+pub returns-then-not-found : goal.returns-then-not-found
+returns-then-not-found c =
+    let a = c.args in
+    (refl, listed-removed a.words.now a.h.used Descendants a.id a.list.now (sym c.found.ensures ∙ c.if-not-found.true))
+
+pub returns-then-not-fits : goal.returns-then-not-fits
+returns-then-not-fits c =
+    let a = c.args in
+    (refl, listed-room a.words.now a.h.used Descendants a.id a.list.now (sym c.found.ensures ∙ c.if-not-found.false) c.fits.ensures c.if-not-fits.true)
+
+pub write_preorder-requires : goal.write_preorder-requires
+write_preorder-requires c =
     let a = c.args in let p = c.requires in
-    (p.0, p.1, p.2, sym c.found.ensures ∙ c.if-found.true, (fits-room a.words.now a.h.used Descendants a.id a.list.now c.fits.ensures c.if-fits.true))
+    (p.0, p.1, p.2, sym c.found.ensures ∙ c.if-not-found.false, (fits-room a.words.now a.h.used Descendants a.id a.list.now c.fits.ensures c.if-not-fits.false))
 
 pub overflow_cast-result : goal.overflow_cast-result
 overflow_cast-result c =
     let a = c.args in
     let b = ordered-most a.words.now a.h.used Descendants a.id in
-    let w = (stored-whole (ordered a.words.now a.h.used Descendants a.id) a.list.now (fits-room a.words.now a.h.used Descendants a.id a.list.now c.fits.ensures c.if-fits.true) c.write_preorder-result.ensures.1).1 in
+    let w = (stored-whole (ordered a.words.now a.h.used Descendants a.id) a.list.now (fits-room a.words.now a.h.used Descendants a.id a.list.now c.fits.ensures c.if-not-fits.false) c.write_preorder.ensures.1).1 in
     search rules
-
-pub returns-then-fits : goal.returns-then-fits
-returns-then-fits c =
-    let a = c.args in
-    (c.write_preorder-result.ensures.0, listed-done a.words.now a.h.used Descendants a.id a.list.now (sym c.found.ensures ∙ c.if-found.true) (fits-room a.words.now a.h.used Descendants a.id a.list.now c.fits.ensures c.if-fits.true) c.write_preorder-result.ensures.1)
-
-pub returns-then-found : goal.returns-then-found
-returns-then-found c =
-    let a = c.args in
-    (refl, listed-room a.words.now a.h.used Descendants a.id a.list.now (sym c.found.ensures ∙ c.if-found.true) c.fits.ensures c.if-fits.false)
 
 pub returns : goal.returns
 returns c =
     let a = c.args in
-    (refl, listed-removed a.words.now a.h.used Descendants a.id a.list.now (sym c.found.ensures ∙ c.if-found.false))
+    (c.write_preorder.ensures.0, listed-done a.words.now a.h.used Descendants a.id a.list.now (sym c.found.ensures ∙ c.if-not-found.false) (fits-room a.words.now a.h.used Descendants a.id a.list.now c.fits.ensures c.if-not-fits.false) c.write_preorder.ensures.1)

@@ -13,4 +13,4 @@ pub returns : goal.returns
 unfolding turned_to
 returns c =
     let a = c.args in
-    on_by a.words.now a.x a.scratch.now a.top c.link_of-first.ensures c.link_of-next.ensures c.if-first-ne0.false c.pick.ensures c.pick-2.ensures c.choose-2.ensures
+    on_by a.words.now a.x a.scratch.now a.top c.link_of-first.ensures c.link_of-next.ensures c.if-first-ne0.false c.choose-2.ensures c.choose-3.ensures c.choose-4.ensures

@@ -1,5 +1,5 @@
 -- The contract of `removal::id::remove_subtree`.
-use Rattle.removal.specs.RemoveLaws.{out_freeable, below_freeable, subtree_by}
+use Rattle.removal.specs.RemoveLaws.{out_freeable, below_freeable}
 use Rattle.removal.proofs.id.remove_subtree.Goals as goal
 
 pub remove_descendants-header-requires : goal.remove_descendants-header-requires
@@ -7,6 +7,3 @@ remove_descendants-header-requires c = (out_freeable c.args.words.now c.args.h c
 
 pub free_node-requires : goal.free_node-requires
 free_node-requires c = below_freeable c.args.words.now c.args.h c.args.id c.requires.0 _ c.detach.ensures c.remove_descendants-header.ensures
-
-pub returns : goal.returns
-returns c = subtree_by _ _ _ c.detach.ensures c.remove_descendants-header.ensures c.free_node.ensures

@@ -1,16 +1,19 @@
 -- The contract of `removal::removal::checked_remove_subtree`.
+use mathlib.Core.Path.{refl}
+use Rattle.sound.specs.GuardedLaws.{guarded-done, guarded-err}
 use Rattle.removal.specs.FreeableLaws.{last-used}
-use Rattle.sound.specs.GuardedLaws.{guarded-done, guarded-refused}
 use Rattle.removal.proofs.removal.checked_remove_subtree.Goals as goal
+
+pub returns-in_err-guard : goal.returns-in_err-guard
+returns-in_err-guard c =
+    let g = c.in_err-guard.ensures.outcome in
+    guarded-err _ _ _ g.0 g.1 (λ _ h. h) (λ _. 0) _ _ _ refl c.from_residual.ensures.1
 
 pub remove_subtree_found-requires : goal.remove_subtree_found-requires
 remove_subtree_found-requires c =
     let a = c.args in
-    let w = c.guard-number.ensures.exact.0 c.if-number-eq-DONE.true in
+    let w = c.in_ok-guard.ensures.exact.0 refl in
     (w.0, last-used a.words.now a.h w.2)
 
-pub returns-then-number-eq-DONE : goal.returns-then-number-eq-DONE
-returns-then-number-eq-DONE c = guarded-done _ _ _ c.guard-number.ensures.outcome.0 c.guard-number.ensures.outcome.1 c.if-number-eq-DONE.true c.remove_subtree_found.ensures
-
 pub returns : goal.returns
-returns c = guarded-refused _ _ _ c.guard-number.ensures.outcome.0 c.guard-number.ensures.outcome.1 _ c.if-number-eq-DONE.false
+returns c = let g = c.in_ok-guard.ensures.outcome in guarded-done _ _ _ g.0 g.1 refl c.remove_subtree_found.ensures

@@ -8,7 +8,7 @@ use Rattle.splice.proofs.splice.tie_in.Goals as goal
 pub lead-requires-2 : goal.lead-requires-2
 lead-requires-2 c =
     let a = c.args in let p = c.requires in let e = ap length c.lead.ensures ∙ length-led _ _ _ _ _ _ _ in
-    (within-stays a.first e p.0, none-or-within-stays a.parent e p.2, none-or-within-stays a.next e p.4, omega arith, omega arith)
+    (within-stays a.first e p.0, none-or-within-stays a.to.parent e p.2.0, none-or-within-stays a.to.next e p.2.2, omega arith, omega arith)
 
 pub returns : goal.returns
 returns c =

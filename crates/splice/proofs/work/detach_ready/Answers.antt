@@ -17,14 +17,14 @@ found_within-requires c = let a = c.args in (capacity-fits (length a.words.now) 
 pub take_out-requires : goal.take_out-requires
 take_out-requires c =
     let a = c.args in let p = c.requires in
-    out-asks a.words.now a.h p.1 p.0 a.id (found_is _ _ _ (sym c.found_within.ensures ∙ c.if-found_within.true))
-
-pub returns-then-found_within : goal.returns-then-found_within
-unfolding detach_node name_no refusal
-returns-then-found_within c =
-    let a = c.args in let p = c.requires in let e = sym c.found_within.ensures ∙ c.if-found_within.true in
-    simp e (ap (λ (m : List ℕ). (m, answer a.h DONE 0)) (c.take_out.ensures ∙ taken_out_lem a.words.now a.h p.1 p.0 a.id (found_is _ _ _ e)))
+    out-asks a.words.now a.h p.1 p.0 a.id (found_is _ _ _ (sym c.found_within.ensures ∙ c.if-not-found_within.false))
 
 pub returns : goal.returns
 unfolding detach_node name_no refusal
-returns c = simp (sym c.found_within.ensures ∙ c.if-found_within.false)
+returns c =
+    let a = c.args in let p = c.requires in let e = sym c.found_within.ensures ∙ c.if-not-found_within.false in
+    simp e (ap (λ (m : List ℕ). (m, answer a.h DONE 0)) (c.take_out.ensures ∙ taken_out_lem a.words.now a.h p.1 p.0 a.id (found_is _ _ _ e)))
+
+pub returns-then-not-found_within : goal.returns-then-not-found_within
+unfolding detach_node name_no refusal
+returns-then-not-found_within c = simp (sym c.found_within.ensures ∙ c.if-not-found_within.true)

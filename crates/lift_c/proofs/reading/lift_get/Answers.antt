@@ -1,9 +1,0 @@
--- The contract of `lift_c::reading::lift_get`.
-use mathlib.Core.Path.{◌∙◌, ap}
-use Rattle.link.specs.declared.header.Header.{Header}
-use Rattle.link.specs.Words.{NUMBER}
-use Rattle.arena.specs.Reads.{read_word}
-use Rattle.lift_c.proofs.reading.lift_get.Goals as goal
-
-pub returns : goal.returns
-returns c = let a = c.args in c.get-answer.ensures ∙ ap (λ (h : Header). read_word NUMBER a.words.now h a.id) c.header_of-h.ensures

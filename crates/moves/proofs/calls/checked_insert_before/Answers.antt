@@ -1,5 +1,0 @@
--- The contract of `moves::calls::checked_insert_before`.
-use Rattle.moves.proofs.calls.checked_insert_before.Goals as goal
-
-pub returns : goal.returns
-returns c = c.checked_move.ensures

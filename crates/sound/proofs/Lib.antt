@@ -1,0 +1,2 @@
+-- Theorems that rest on those of specs/.
+pub mod ExactLaws

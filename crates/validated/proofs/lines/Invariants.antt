@@ -1,9 +1,0 @@
--- The loop of `validated::lines`.
-use Rattle.std.proofs.Common.{length, ◌-◌}
-use Rattle.validated.proofs.lines.Given as goal
-
-abbrev pub invariant-loop-at : goal.invariant-loop-at
-invariant-loop-at l = Unit {0}
-
-abbrev pub decreases-loop-at : goal.decreases-loop-at
-decreases-loop-at l = length l.text - l.at

@@ -1,9 +1,0 @@
--- The loop of `validated::text::line_end`.
-use Rattle.std.proofs.Common.{length, ◌-◌, ◌≤◌}
-use Rattle.validated.proofs.text.line_end.Given as goal
-
-abbrev pub invariant-loop-end : goal.invariant-loop-end
-invariant-loop-end l = (l.at ≤ l.end) × (l.end ≤ length l.text)
-
-abbrev pub decreases-loop-end : goal.decreases-loop-end
-decreases-loop-end l = length l.text - l.end
