@@ -16,14 +16,18 @@ pub struct Census {
     pub fresh: u32,
 }
 
-// How many slots in use have a stamp whose 16 bits lie from low to high.
+// How many slots in use have a stamp whose 16 bits lie from low to high. Summed and not filtered, so that no branch waits for a stamp;
+// from the last slot back, which takes less where few slots are in use.
 fn count_stamps(words: &[u32], used: u32, low: u32, high: u32) -> u32
     requires { used * width ≤ length words.now }
     ensures { result ≡ slots_that (stamp_in low high words.now) used }
 {
-    (1..=used)
-        .filter(|slot| (low..=high).contains(&stamp_of(get_word(words, *slot, Slot::STAMP))))
-        .count() as u32
+    let mut count = 0;
+    for i in (0..used).rev() {
+        let stamp = stamp_of(get_word(words, i + 1, Slot::STAMP));
+        count += u32::from((low..=high).contains(&stamp));
+    }
+    count
 }
 
 // The work of the live count.

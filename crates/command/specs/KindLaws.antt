@@ -1,6 +1,6 @@
 -- The tables of works, and of kinds and details, say what the table of calls says. By computing the tables.
 use Rattle.std.specs.Prelude.{◌≡◌, refl, Bool, true, false, cond, List, [], ◌∷◌, ℕ, zero, suc, ◌-◌, ◌≤◌, ◌<◌, ltb, length, get_or}
-use Rattle.std.proofs.Common.{sym, ap, ◌∙◌, arith, ltb-true}
+use Rattle.std.proofs.Common.{sym, ap, ◌∙◌, arith, ltb-true, ltb-false}
 use Rattle.std.proofs.lemmas.Bool.{false≢true}
 use Rattle.std.proofs.Math.ListN.{get_or-eq_default}
 use Rattle.link.specs.Words.{width}
@@ -9,7 +9,7 @@ use Rattle.command.specs.Kinds.{kind_table, detail_table, calls_by, call_by, cal
 use Rattle.command.specs.declared.code.Work.{Work}
 use Rattle.command.specs.declared.code.Work.TheVariants as Do
 use Rattle.command.specs.declared.call.Call.{Call}
-use Rattle.command.specs.declared.call.Call.TheVariants.{Validate}
+use Rattle.command.specs.declared.call.Call.TheVariants.{Make, Read, Set, LiveCount, DescendantCount, Validate}
 
 -- the calls of two tables, one beside the other
 calls : List ℕ → List ℕ → List Call
@@ -71,26 +71,70 @@ works_at [] i h = absurd (omega arith)
 works_at (w ∷ ws) zero h = refl
 works_at (w ∷ ws) (suc i) h = works_at ws i (omega arith)
 
-works_tables : works work_table ≡ call_table
-unfolding works
+works_tables : works work_table ≡ calls kind_table detail_table
+unfolding works calls
 works_tables = refl
 
+work_at : (i : ℕ) → i < 24 → call_as (get_or work_table i (Do.Read 0)) ≡ call_by (get_or kind_table i 0) (get_or detail_table i 0)
+work_at i h = sym (works_at work_table i h) ∙ ap (λ (cs : List Call). get_or cs i Validate) works_tables ∙ calls_at kind_table detail_table i h refl
+
+-- A work is its kind and its detail in one: so the laws of these two tables are of the works that the code has.
+pub work-kind : (code : ℕ) → 0 < code → code ≤ 24
+    → call_as (get_or work_table (code - 1) (Do.Read 0)) ≡ call_by (get_or kind_table (code - 1) 0) (get_or detail_table (code - 1) 0)
+work-kind code a b = work_at (code - 1) (omega arith)
+
 pub work-call : (code : ℕ) → 0 < code → code ≤ 24 → call_as (get_or work_table (code - 1) (Do.Read 0)) ≡ call_of code
-work-call zero a b = absurd (omega arith)
-work-call (suc i) a b =
-    let h : i < 24 = omega arith in
-    let e : suc i - 1 ≡ i = omega arith in
-    rw e (sym (works_at work_table i h) ∙ ap (λ (cs : List Call). get_or cs i Validate) works_tables)
+work-call code a b = work-kind code a b ∙ kind-call code a b
 
-abbrev EachWithin : List Work → Type 0
-EachWithin [] = Unit {0}
-EachWithin (w ∷ ws) = WithinSlot w × EachWithin ws
+-- the word that a call reads; 0 of the others
+abbrev word_in : Call → ℕ
+word_in (Read k) = k
+word_in (Make change) = 0
+word_in Set = 0
+word_in LiveCount = 0
+word_in DescendantCount = 0
+word_in Validate = 0
 
--- and a read among them is of a word of a slot
+word-by : (kind detail : ℕ) → detail < width → word_in (call_by kind detail) < width
+word-by zero d h = h
+word-by (suc zero) d h = omega arith
+word-by (suc (suc zero)) d h = omega arith
+word-by (suc (suc (suc zero))) d h = omega arith
+word-by (suc (suc (suc (suc zero)))) d h = omega arith
+word-by (suc (suc (suc (suc (suc zero))))) d h = omega arith
+word-by (suc (suc (suc (suc (suc (suc zero)))))) d h = omega arith
+word-by (suc (suc (suc (suc (suc (suc (suc zero))))))) d h = omega arith
+word-by (suc (suc (suc (suc (suc (suc (suc (suc zero)))))))) d h = omega arith
+word-by (suc (suc (suc (suc (suc (suc (suc (suc (suc zero))))))))) d h = omega arith
+word-by (suc (suc (suc (suc (suc (suc (suc (suc (suc (suc zero)))))))))) d h = omega arith
+word-by (suc (suc (suc (suc (suc (suc (suc (suc (suc (suc (suc zero))))))))))) d h = omega arith
+word-by (suc (suc (suc (suc (suc (suc (suc (suc (suc (suc (suc (suc k)))))))))))) d h =
+    let past = ap word_in (kind-past (suc (suc (suc (suc (suc (suc (suc (suc (suc (suc (suc (suc k)))))))))))) d (omega arith)) in omega (arith, past)
+
+by-word : (w : Work) → word_in (call_as w) < width → WithinSlot w
+by-word (Do.Read k) h = h
+by-word Do.Set h = tt
+by-word Do.New h = tt
+by-word (Do.Move place) h = tt
+by-word (Do.Value place) h = tt
+by-word Do.Detach h = tt
+by-word Do.DetachChildren h = tt
+by-word Do.Remove h = tt
+by-word Do.RemoveSubtree h = tt
+by-word Do.RemoveChildren h = tt
+by-word Do.LiveCount h = tt
+by-word Do.DescendantCount h = tt
+by-word Do.Validate h = tt
+
+-- and a read among the works is of a word of a slot
 pub work-within : (i : ℕ) → WithinSlot (get_or work_table i (Do.Read 0))
-work-within i = all work_table (search arith) i
+work-within i = within (ltb i 24) refl
   where
-    all : (ws : List Work) → EachWithin ws → (i : ℕ) → WithinSlot (get_or ws i (Do.Read 0))
-    all [] f i = omega arith
-    all (w ∷ ws) f zero = f.0
-    all (w ∷ ws) f (suc i) = all ws f.1 i
+    within : (b : Bool) → ltb i 24 ≡ b → WithinSlot (get_or work_table i (Do.Read 0))
+    within true e =
+        let same = ap word_in (work_at i (ltb-true i 24 e)) in
+        let word = word-by (get_or kind_table i 0) (get_or detail_table i 0) (detail-word i) in
+        by-word (get_or work_table i (Do.Read 0)) (omega (arith, same, word))
+    within false e =
+        let past : get_or work_table i (Do.Read 0) ≡ Do.Read 0 = get_or-eq_default work_table (Do.Read 0) (ltb-false i 24 e) in
+        rw past (omega arith)

@@ -8,6 +8,7 @@ use link::words::Slot;
 use moves::place::Place;
 
 // The codes of document 01, 1 to 24. Only the constants are used: document 01 wants a match on the number.
+#[derive(Clone, Copy, Debug, PartialEq, Eq)]
 pub struct Code;
 
 impl Code {

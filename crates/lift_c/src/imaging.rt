@@ -5,10 +5,9 @@ ghost use Rattle.image.specs.Save.{saved};
 ghost use Rattle.image.specs.Load.{loaded};
 ghost use Rattle.lift_c.specs.Face.{header_of};
 
-use crate::packing::{header_of, put_answer, put_reply};
-use image::load::load;
+use crate::packing::{header_of, put_header, put_reply};
+use image::load::{answered, load};
 use image::save::save;
-use link::header::Header;
 
 pub fn lift_save(
     words: &[u32],
@@ -23,7 +22,7 @@ pub fn lift_save(
     put_reply(res, save(words, h, scratch, bytes))
 }
 
-// The header is written by every load; by a refused one, with zeros.
+// The header is written by every load; by a refused one, with zeros. Not by `put_answer`: no header comes with a load.
 pub fn lift_load(
     bytes: &[u8],
     words: &mut [u32],
@@ -33,6 +32,8 @@ pub fn lift_load(
 ) -> u32
     ensures { (words.new, scratch.new, answer (header_of header.new) result res.new) ≡ loaded bytes.now words.old scratch.old }
 {
-    let said = load(bytes, words, scratch);
-    put_answer(header, res, Header::default(), said)
+    let answer = answered(load(bytes, words, scratch));
+    put_header(header, answer.header);
+    *res = answer.result;
+    answer.number
 }

@@ -91,6 +91,10 @@ places-bound n =
     at true x y p q = p
     at false x y p q = q
 
+one_place : (n : ℕ) → n < 10 → 1 ≡ places_of n
+unfolding places_of
+one_place n h = grind (arith, nat_tests)
+
 pub text-length : (n : ℕ) → length (text_of n) ≡ places_of n
 unfolding text_of
 text-length n = digits-length (places_of n) n
@@ -104,6 +108,12 @@ module _ (l : List ℕ) (at n : ℕ) where
       let o : out ≡ sets l at (digits_of (places_of n) n) = f ∙ ap (λ (j : ℕ). sets l at (digits_of j n)) e in
       let p : at + k ≡ at + length (digits_of (places_of n) n) = ap (λ (j : ℕ). at + j) (e ∙ sym (digits-length (places_of n) n)) in
       rw (o, p) refl
+
+  -- of one digit
+  pub digit_put : n < 10 → ◌≡◌ {A = List ℕ × ℕ} (set l at (48 + n), at + 1) (sets l at (text_of n), at + length (text_of n))
+  digit_put h =
+      let e : n % 10 ≡ n = omega arith in
+      number_put (one_place n h) (sym (digits_one l at 1 n refl ∙ ap (λ (x : ℕ). set l at (48 + x)) e))
 
   pub number-end : {out : List ℕ} {r : ℕ} → ◌≡◌ {A = List ℕ × ℕ} (out, r) (sets l at (text_of n), at + length (text_of n)) → r ≤ at + 10
   number-end e =

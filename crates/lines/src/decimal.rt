@@ -24,11 +24,15 @@ fn put_digits(out: &mut [u8], at: usize, k: usize, n: u32)
     }
 }
 
-// The number, from a place on; the place after it.
+// The number, from a place on; the place after it. Most numbers have one digit, which need not be counted.
 pub fn put_number(out: &mut [u8], at: usize, n: u32) -> usize
     requires { at + 10 ≤ length out.old }
     ensures { ◌≡◌ {A = List ℕ × ℕ} (out.new, result) (sets out.old at (text_of n), at + length (text_of n)) }
 {
+    if n < 10 {
+        out[at] = b'0' + n as u8;
+        return at + 1;
+    }
     let k = places(n);
     put_digits(out, at, k, n);
     at + k

@@ -4,6 +4,7 @@ ghost use Rattle.std.specs.Prelude.{◌≡◌, ◌*◌, ◌<◌, ◌≤◌, leng
 ghost use Rattle.link.specs.Words.{width, capacity_of, word, set_word, link, set_link};
 
 // A numbered run of words. Slot 0 is none. Word numbers are numbers and no enum: they are offsets, and `link_of` takes any.
+#[derive(Clone, Copy, Debug, PartialEq, Eq)]
 pub struct Slot;
 
 impl Slot {
